@@ -1,0 +1,10 @@
+pub mod Lists
+pub mod Terms
+pub mod Files
+pub mod Ways
+pub mod Refusals
+pub mod Laying
+pub mod Sheets
+pub mod Mill
+pub mod Listing
+pub mod Table

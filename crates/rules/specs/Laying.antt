@@ -140,7 +140,7 @@ module _ (ends : List ℕ) where
 module _ (ports : ℕ) (ends : List ℕ) (play : List Bool) where
   -- ---- First cycle.
 
-  -- Channel c from its first end a to its second end b, then back to a by the path without channel c.
+  -- Channel c from its first end a to its second end b, then back to a by the path without channel c that has fewest channels and, among those, the smallest list of ports compared from the front.
   unfoldable pub cycle : ℕ → List ℕ
   cycle c =
       2 * c ∷ path ports ends (λ d. inPlay play d && not (eqb (d / 2) c)) (λ p. true) (enters ends (2 * c)) (leaves ends (2 * c))

@@ -73,7 +73,8 @@ stuckTest o = elim (o .word) [
   | PARTIAL ↦ passed
 ]
 
--- When a sheet is written, the plate is laid without a cap. 1-11, then 15, then 16. Buffer needed: 8+6E bytes.
+-- When a sheet is written, the plate is laid without a cap and the turns go into the part of the lent buffer that begins at byte 8 + 2E.
+-- 1-11, then 15; the sheet writer also 16. Buffer needed: 8+6E bytes.
 unfoldable pub writeSheet : List ℕ → ℕ → Answer (List ℕ)
 writeSheet b bytes = do
   p ← readPlate b

@@ -69,6 +69,23 @@ unfoldable pub around : List ℕ → List ℕ → List ℕ
 around [] t = t
 around (d ∷ l) t = link d l d t
 
+-- ---- First cycle.
+
+module _ (ports : ℕ) (ends : List ℕ) (play : List Bool) where
+  -- Channel c from its first end a to its second end b, then back to a by the path without channel c that has fewest channels and, among those, the smallest list of ports compared from the front.
+  unfoldable pub cycle : ℕ → List ℕ
+  cycle c =
+      2 * c ∷ path ports ends (λ d. inPlay play d && not (eqb (d / 2) c)) (λ p. true) (enters ends (2 * c)) (leaves ends (2 * c))
+
+  -- Land 0 holds dart 0, land 1 holds dart 1.
+  unfoldable pub start : ℕ → State
+  start c =
+      let l = cycle c in
+      let b = back l in
+      record { turns = around l (around b (replicate (length ends) missing)); lands = listed l ∷ listed b ∷ []; paths = [] }
+
+-- ---- Fragments.
+
 pub record Fragment : Type 0 where
   pub name : ℕ
   pub ports : List Bool
@@ -77,54 +94,6 @@ pub record Choice : Type 0 where
   pub fragment : Fragment
   pub contacts : List ℕ
   pub fits : List ℕ
-
-pub data Verdict : Type 0 where
-  flat : Verdict
-  stuck : ℕ → Verdict
-  ready : Choice → Verdict
-
-pub data Word : Type 0 where
-  FLAT : Word
-  STUCK : Word
-  PARTIAL : Word
-
--- the word, the name, and what was laid
-pub record Outcome : Type 0 where
-  pub word : Word
-  pub name : ℕ
-  pub state : State
-
--- ---- The split.
-
--- The land consists of a stretch A from x to y and a stretch B from y to x, and q is the path. The path followed by B keeps the land's number; the reversed path followed by A takes the next unused number.
--- At x the path's first dart comes directly after the reverse of B's last dart; at y the reversed path's first dart comes directly after the reverse of A's last dart.
-unfoldable pub splitTurns : List ℕ → List ℕ → List ℕ → List ℕ → List ℕ
-splitTurns a b q t = link (last b) q (first b) (link (last a) (back q) (first a) t)
-
-unfoldable pub splitLands : ℕ → List ℕ → List ℕ → List ℕ → List (List ℕ) → List (List ℕ)
-splitLands i a b q ls = set ls i (listed (q ++ b)) ++ (listed (back q ++ a) ∷ [])
-
--- ---- which fragment: cs are in order of name
-
-unfoldable pub without : Choice → Bool
-without c = eqb (length (c .fits)) 0
-
-unfoldable pub single : Choice → Bool
-single c = eqb (length (c .fits)) 1
-
--- the lowest-named of cs
-unfoldable pub lowest : List Choice → Choice
-lowest [] = record { fragment = record { name = 0; ports = [] }; contacts = []; fits = [] }
-lowest (c ∷ cs) = c
-
--- Take the lowest-named fragment with exactly one admissible land; if there is none, the lowest-named fragment.
-unfoldable pub chosen : List Choice → Choice
-chosen cs = lowest (keep single cs ++ cs)
-
--- Some fragment without admissible land: STUCK, with the lowest such name.
-unfoldable pub stuckOr : List Choice → Verdict → Verdict
-stuckOr [] v = v
-stuckOr (c ∷ cs) v = stuck (c .fragment .name)
 
 module _ (ends : List ℕ) where
   -- the laid ports, r and those that a laid dart of ds leaves
@@ -138,22 +107,6 @@ module _ (ends : List ℕ) where
   admissible cs i (l ∷ ls) = cond (all (visits ends l) cs) (i ∷ admissible cs (suc i) ls) (admissible cs (suc i) ls)
 
 module _ (ports : ℕ) (ends : List ℕ) (play : List Bool) where
-  -- ---- First cycle.
-
-  -- Channel c from its first end a to its second end b, then back to a by the path without channel c that has fewest channels and, among those, the smallest list of ports compared from the front.
-  unfoldable pub cycle : ℕ → List ℕ
-  cycle c =
-      2 * c ∷ path ports ends (λ d. inPlay play d && not (eqb (d / 2) c)) (λ p. true) (enters ends (2 * c)) (leaves ends (2 * c))
-
-  -- Land 0 holds dart 0, land 1 holds dart 1.
-  unfoldable pub start : ℕ → State
-  start c =
-      let l = cycle c in
-      let b = back l in
-      record { turns = around l (around b (replicate (length ends) missing)); lands = listed l ∷ listed b ∷ []; paths = [] }
-
-  -- ---- Fragments.
-
   -- dart d is one of the fragment's: its channel is the one that names it, or touches one of its ports
   unfoldable pub within : Fragment → ℕ → Bool
   within f d = inPlay play d && (eqb (d / 2) (f .name) || at (f .ports) (leaves ends d) || at (f .ports) (enters ends d))
@@ -195,8 +148,55 @@ module _ (ports : ℕ) (ends : List ℕ) (play : List Bool) where
       let lp = laidPorts ends (s .turns) (from 0 (length ends)) (replicate ports false) in
       map (choiceOf lp (s .lands)) (fragments (s .turns) lp (from 0 (length play)) [])
 
-  -- ---- The path.
+-- ---- Each round, in this order.
 
+-- All channels laid: FLAT.
+module _ (ports : ℕ) (ends : List ℕ) (play : List Bool) where
+  unfoldable pub allLaid : List ℕ → Bool
+  allLaid t = all (λ k. laid t (2 * k) || not (at play k)) (from 0 (length play))
+
+pub data Verdict : Type 0 where
+  flat : Verdict
+  stuck : ℕ → Verdict
+  ready : Choice → Verdict
+
+unfoldable pub without : Choice → Bool
+without c = eqb (length (c .fits)) 0
+
+-- Some fragment without admissible land: STUCK, with the lowest such name.
+unfoldable pub stuckOr : List Choice → Verdict → Verdict
+stuckOr [] v = v
+stuckOr (c ∷ cs) v = stuck (c .fragment .name)
+
+-- The allowed number n of paths (0..4,294,967,295, first cycle not counted) laid: PARTIAL. Otherwise lay one path. (`rounds`, below.)
+
+-- ---- The path.
+
+unfoldable pub single : Choice → Bool
+single c = eqb (length (c .fits)) 1
+
+-- the lowest-named of cs
+unfoldable pub lowest : List Choice → Choice
+lowest [] = record { fragment = record { name = 0; ports = [] }; contacts = []; fits = [] }
+lowest (c ∷ cs) = c
+
+-- Take the lowest-named fragment with exactly one admissible land; if there is none, the lowest-named fragment.
+unfoldable pub chosen : List Choice → Choice
+chosen cs = lowest (keep single cs ++ cs)
+
+-- ---- The split.
+
+-- The land consists of a stretch A from x to y and a stretch B from y to x, and q is the path. The path followed by B keeps the land's number; the reversed path followed by A takes the next unused number.
+-- At x the path's first dart comes directly after the reverse of B's last dart; at y the reversed path's first dart comes directly after the reverse of A's last dart.
+unfoldable pub splitTurns : List ℕ → List ℕ → List ℕ → List ℕ → List ℕ
+splitTurns a b q t = link (last b) q (first b) (link (last a) (back q) (first a) t)
+
+unfoldable pub splitLands : ℕ → List ℕ → List ℕ → List ℕ → List (List ℕ) → List (List ℕ)
+splitLands i a b q ls = set ls i (listed (q ++ b)) ++ (listed (back q ++ a) ∷ [])
+
+-- ---- one path
+
+module _ (ports : ℕ) (ends : List ℕ) (play : List Bool) where
   -- Take the lowest-numbered land that visits every contact. Let x < y be the two smallest contacts.
   -- The path runs from x to y inside the fragment with no laid port between, fewest channels first, then smallest list of ports.
   unfoldable pub lay : State → Choice → State
@@ -208,23 +208,31 @@ module _ (ports : ℕ) (ends : List ℕ) (play : List Bool) where
       let r = since ends x l ++ before ends x l in
       let a = before ends y r in
       let b = since ends y r in
-      let q = path ports ends (within (c .fragment)) (at (c .fragment .ports)) x y in
+      let q = path ports ends (within ports ends play (c .fragment)) (at (c .fragment .ports)) x y in
       record {
         turns = splitTurns a b q (s .turns);
         lands = splitLands i a b q (s .lands);
         paths = s .paths ++ (record { fragment = c .fragment .name; land = i; darts = q } ∷ []);
       }
 
-  -- ---- Each round, in this order.
+-- ---- the rounds
 
-  -- all channels in play are laid
-  unfoldable pub allLaid : List ℕ → Bool
-  allLaid t = all (λ k. laid t (2 * k) || not (at play k)) (from 0 (length play))
+pub data Word : Type 0 where
+  FLAT : Word
+  STUCK : Word
+  PARTIAL : Word
 
+-- the word, the name, and what was laid
+pub record Outcome : Type 0 where
+  pub word : Word
+  pub name : ℕ
+  pub state : State
+
+module _ (ports : ℕ) (ends : List ℕ) (play : List Bool) where
   unfoldable pub judge : State → Verdict
   judge s =
-      let cs = choices s in
-      cond (allLaid (s .turns)) flat (stuckOr (keep without cs) (ready (chosen cs)))
+      let cs = choices ports ends play s in
+      cond (allLaid ports ends play (s .turns)) flat (stuckOr (keep without cs) (ready (chosen cs)))
 
   -- All channels laid: FLAT. Some fragment without admissible land: STUCK. The allowed number n of paths laid: PARTIAL. Otherwise lay one path.
   unfoldable pub rounds : ℕ → State → Outcome
@@ -236,7 +244,7 @@ module _ (ports : ℕ) (ends : List ℕ) (play : List Bool) where
   rounds (suc n) s = elim (judge s) [
     | flat ↦ record { word = FLAT; name = 0; state = s }
     | stuck k ↦ record { word = STUCK; name = k; state = s }
-    | ready c ↦ rounds n (lay s c)
+    | ready c ↦ rounds n (lay ports ends play s c)
   ]
 
   -- channel 0, or the lowest channel in play
@@ -244,10 +252,10 @@ module _ (ports : ℕ) (ends : List ℕ) (play : List Bool) where
   firstChannel = seek (at play) 0 (length play)
 
   unfoldable pub firstCycle : List ℕ
-  firstCycle = cycle firstChannel
+  firstCycle = cycle ports ends play firstChannel
 
   unfoldable pub laying : ℕ → Outcome
-  laying n = rounds n (start firstChannel)
+  laying n = rounds n (start ports ends play firstChannel)
 
 -- ---- What is left.
 

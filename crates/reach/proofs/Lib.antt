@@ -1,0 +1,8 @@
+pub mod Seeking
+pub mod Filling
+pub mod Chaining
+pub mod Chains
+pub mod Meeting
+pub mod Spreading
+pub mod Flooding
+pub mod Around

@@ -1,0 +1,5 @@
+pub mod Walking
+pub mod Fitting
+pub mod Writing
+pub mod Linking
+pub mod Laws

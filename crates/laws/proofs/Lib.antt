@@ -19,3 +19,7 @@ pub mod FirstCycle
 pub mod Refusals
 pub mod Reading
 pub mod Afresh
+pub mod InOrder
+pub mod Counting
+pub mod Passing
+pub mod RoundTrip

@@ -23,3 +23,10 @@ pub mod InOrder
 pub mod Counting
 pub mod Passing
 pub mod RoundTrip
+pub mod Steps
+pub mod Turns
+pub mod Visits
+pub mod Sweeps
+pub mod NewTurns
+pub mod Rings
+pub mod Changes

@@ -22,6 +22,7 @@ use Rattle.laws.proofs.Trails.{Trail, trail-cut, inner}
 use Rattle.laws.proofs.Corners.{Closed}
 use Rattle.laws.proofs.Sound.{count-at, Sound}
 use Rattle.laws.proofs.Choices.{Open, Sensible}
+use Rattle.laws.proofs.Reaches.{Wide}
 use Rattle.laws.proofs.Rounds.{Layable, kept-lay}
 use Rattle.laws.proofs.FirstCycle.{kept-laying}
 use Rattle.laws.proofs.Steps.{Parted, parted-same, parted-lay}
@@ -174,7 +175,7 @@ module _ (ps : List ℕ) (s z : State) (K : Sound (s .turns) (s .lands)) (L : So
 
 -- ---- any number of paths before
 
-pub changed-lay : (np : ℕ) (ps : List ℕ) (on : List Bool) → Layable np ps on → 3 ≤ np → (c : ℕ) → T (at on c)
+pub changed-lay : (np : ℕ) (ps : List ℕ) (on : List Bool) → Layable np ps on → Wide ps on → (c : ℕ) → T (at on c)
     → (n : ℕ) (e : Choice) → Sensible np ps on (laying np ps on n .state) e → Open e → Changed ps (laying np ps on n .state) (lay np ps on (laying np ps on n .state) e)
 changed-lay np ps on G many c o n e i p =
     let s = laying np ps on n .state in

@@ -5,7 +5,7 @@
 --   isLaid p                 port p is left by a laid dart
 --   IsWord w v               v is the word w
 --   Flat P v                 P holds where the verdict v is flat
--- length-le, length-same, length-full: lengths by counts. count-rows, rows-..: what is kept of 0, 1, .., n − 1. length-laid, darts-counted: the darts of all lands are two for each laid channel.
+-- length-full: a list that has all of 0, 1, .., n − 1 is that long. count-rows, rows-..: what is kept of 0, 1, .., n − 1. length-laid, darts-counted: the darts of all lands are two for each laid channel.
 -- ports-counted: laid ports + lands = laid channels + 2. paths-counted: paths + laid ports = laid channels. tree, missing-ports: in one piece, as long as a port is missing a channel leads to it from those that are there, so that missing ports are no more than missing channels.
 -- rounds-cases: a thing of the rounds by what each round says. rounds-flat: FLAT says that all channels in play are laid. rounds-partial: PARTIAL says that n paths are laid.
 -- ports-, paths-, darts-laidOut, and paths-, lands-, darts-most: so it is with every plate that is read, laid with at most n paths. flat-laid, paths-, lands-, darts-flat, partial-paths: and so where the word is FLAT, or PARTIAL.
@@ -19,20 +19,20 @@ use native.Mathlib.Nat.{not-suc-le-zero, eq-zero-or-pos}
 use native.Mathlib.Omega.{arith}
 use lib.Dec.{T, eqb, eqb→eq}
 use lib.ListN.{length, getD, length-append, length-replicate, getD-replicate}
-use Rattle.rules.specs.Lists.{from, any, all, keep, at, concat}
+use Rattle.rules.specs.Lists.{from, any, keep, at, concat}
 use Rattle.rules.specs.Terms.{leaves, enters, reverse, laid}
 use Rattle.rules.specs.Ways.{inPlay}
 use Rattle.rules.specs.Refusals.{given, Plate, readPlate}
 use Rattle.rules.specs.Laying.{State, Word, FLAT, STUCK, PARTIAL, Outcome, Verdict, flat, stuck, ready, Choice, lay, allLaid, stuckOr, judge, choices, without, chosen, rounds, start, firstChannel, laying, wholePlate, laidOut, landsOfFlat}
 use Rattle.laws.proofs.Tests.{cond-cases, eq→eqb, and-T, T-and, or-T}
-use Rattle.laws.proofs.Counts.{flag, flag-T, T-flag, is, is-self, is-cases, is-apart, is-le, count, count-append, zero-of, sum, length-sum, pigeon}
+use Rattle.laws.proofs.Counts.{length-le, length-same, flag, flag-T, T-flag, is, is-self, is-cases, is-apart, is-le, count, count-append, zero-of, sum, length-sum, pigeon}
 use Rattle.laws.proofs.Lists.{any-T, T-any, all-T, keep-le, keep-T, T-keep, count-from, from-lt, from-once}
 use Rattle.laws.proofs.Runs.{Land, channel-darts}
 use Rattle.laws.proofs.Links.{laid-lt}
 use Rattle.laws.proofs.Trails.{leaves-reverse}
 use Rattle.laws.proofs.Reaches.{play-dart, play-reverse, Way, Linked, linked-join, linked-back}
 use Rattle.laws.proofs.Sound.{countAll, all-at, Sound}
-use Rattle.laws.proofs.Euler.{lengthAll, Ports}
+use Rattle.laws.proofs.Euler.{lengthAll}
 use Rattle.laws.proofs.Rounds.{Layable, Kept, land-head, kept-dart, kept-land}
 use Rattle.laws.proofs.Reading.{accepted, layable, kept-laidOut}
 
@@ -46,20 +46,7 @@ laidPortsOf n ends t = keep (λ p. any (λ d. laid t d && eqb (leaves ends d) p)
 unfoldable pub laidChannels : ℕ → List ℕ → List ℕ
 laidChannels e t = keep (λ k. laid t (2 * k)) (from 0 e)
 
--- ---- lengths by counts
-
-sum-less : (n : ℕ) (l m : List ℕ) → ((z : ℕ) → count z l ≤ count z m) → sum n l ≤ sum n m
-unfolding sum
-sum-less zero l m h = omega arith
-sum-less (suc n) l m h = omega (arith, sum-less n l m h, h n)
-
--- no number stands in l oftener than in m: l is not longer
-pub length-le : (n : ℕ) (l m : List ℕ) → ((z : ℕ) → 1 ≤ count z m → z < n) → ((z : ℕ) → count z l ≤ count z m) → length l ≤ length m
-length-le n l m b h = omega (arith, length-sum n l (λ z k. b z (omega (arith, h z))), length-sum n m b, sum-less n l m h)
-
-pub length-same : (n : ℕ) (l m : List ℕ) → ((z : ℕ) → 1 ≤ count z m → z < n) → ((z : ℕ) → count z l ≡ count z m) → length l ≡ length m
-length-same n l m b h =
-    omega (arith, length-le n l m b (λ z. omega (arith, h z)), length-le n m l (λ z k. b z (omega (arith, h z))) (λ z. omega (arith, h z)))
+-- ---- rows
 
 -- what is kept of 0, 1, .., n − 1
 pub count-rows : (f : ℕ → Bool) (n z : ℕ) → z < n → count z (keep f (from 0 n)) ≡ flag (f z)
@@ -123,7 +110,7 @@ length-laid t ls e n S =
 
 -- ---- laid ports, laid channels, lands and paths
 
-module _ (np : ℕ) (ps : List ℕ) (on : List Bool) (G : Layable np ps on) (s : State) (K : Kept ps s) where
+module _ (np : ℕ) (ps : List ℕ) (on : List Bool) (G : Layable np ps on) (s : State) (K : Kept ps on s) where
   -- port p is left by a laid dart
   isLaid : ℕ → Bool
   isLaid p = any (λ d. laid (s .turns) d && eqb (leaves ps d) p) (from 0 (length ps))
@@ -235,7 +222,7 @@ module _ (np : ℕ) (ps : List ℕ) (on : List Bool) (G : Layable np ps on)
       (lacks L np)
 
   -- Missing ports are no more than missing channels, after any number of paths.
-  pub missing-ports : (s : State) → Kept ps s → np + length (laidChannels (length on) (s .turns)) ≤ length (laidPortsOf np ps (s .turns)) + length on
+  pub missing-ports : (s : State) → Kept ps on s → np + length (laidChannels (length on) (s .turns)) ≤ length (laidPortsOf np ps (s .turns)) + length on
   unfolding laidChannels laidPortsOf isLaid
   missing-ports s K =
       let t = s .turns in
@@ -255,7 +242,7 @@ module _ (np : ℕ) (ps : List ℕ) (on : List Bool) (G : Layable np ps on)
       }) (leaves ps (c .0)) (here (c .0) (kept-land np ps on G s K 0 (c .0) (c .1)))
 
   -- where all channels are laid, so are all ports
-  pub all-ports : 2 ≤ np → (s : State) → Kept ps s → ((d : ℕ) → d < length ps → T (laid (s .turns) d)) → length (laidPortsOf np ps (s .turns)) ≡ np
+  pub all-ports : 2 ≤ np → (s : State) → Kept ps on s → ((d : ℕ) → d < length ps → T (laid (s .turns) d)) → length (laidPortsOf np ps (s .turns)) ≡ np
   unfolding laidPortsOf isLaid
   all-ports two s K h = rows-all (isLaid np ps on G s K) np (λ p b. touched p (other p) (linked p (other p .0) b (other p .1)))
     where

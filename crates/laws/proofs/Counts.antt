@@ -4,7 +4,7 @@
 --   count x l       how often x stands in l: it stands there where 1 ≤ count x l, and not where the count is 0
 --   Distinct l      no number stands in l twice
 --   sum n l         how often numbers below n stand in l
--- count-append, count-map: the counts of lists put together and mapped. distinct-of, distinct-le: distinct is counted at most once. pigeon: distinct numbers below n are at most n.
+-- count-append, count-map: the counts of lists put together and mapped. distinct-of, distinct-le: distinct is counted at most once. pigeon: distinct numbers below n are at most n. length-le, length-same: lengths by counts.
 -- Assumes nothing.
 use mathlib.Core.Path.{_≡_, refl, ap, sym, _∙_}
 use mathlib.Core.Logic.{_≢_, _⊎_, inl, inr, ⊎-elim}
@@ -165,3 +165,17 @@ sum-le (suc n) l h = omega (arith, sum-le n l h, h n)
 
 pub pigeon : (n : ℕ) (l : List ℕ) → ((z : ℕ) → 1 ≤ count z l → z < n) → ((z : ℕ) → count z l ≤ 1) → length l ≤ n
 pigeon n l h u = omega (arith, length-sum n l h, sum-le n l u)
+
+-- ---- lengths
+sum-less : (n : ℕ) (l m : List ℕ) → ((z : ℕ) → count z l ≤ count z m) → sum n l ≤ sum n m
+unfolding sum
+sum-less zero l m h = omega arith
+sum-less (suc n) l m h = omega (arith, sum-less n l m h, h n)
+
+-- no number stands in l oftener than in m: l is not longer
+pub length-le : (n : ℕ) (l m : List ℕ) → ((z : ℕ) → 1 ≤ count z m → z < n) → ((z : ℕ) → count z l ≤ count z m) → length l ≤ length m
+length-le n l m b h = omega (arith, length-sum n l (λ z k. b z (omega (arith, h z))), length-sum n m b, sum-less n l m h)
+
+pub length-same : (n : ℕ) (l m : List ℕ) → ((z : ℕ) → 1 ≤ count z m → z < n) → ((z : ℕ) → count z l ≡ count z m) → length l ≡ length m
+length-same n l m b h =
+    omega (arith, length-le n l m b (λ z. omega (arith, h z)), length-le n m l (λ z k. b z (omega (arith, h z))) (λ z. omega (arith, h z)))

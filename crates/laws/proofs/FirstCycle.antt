@@ -1,4 +1,4 @@
--- The first cycle (document 01, "Laying"): where no port cuts, a way leads back without its channel, and the state that it leaves has all that rounds keep. So has the state after any number of paths.
+-- The first cycle (document 01, "Laying"): where the channels in play touch three ports and none cuts these, a way leads back without its channel, and the state that it leaves has all that rounds keep. So has the state after any number of paths.
 --   blank, reversed, full      n missing turns; these with the reverse of a cycle linked; and with the cycle linked, too
 --   okC, a, b, q               of a first cycle with channel c: the darts in play without c's, the first end of c, its second end, the path back from b to a
 -- sound-cycle: a cycle of darts that goes over no channel twice, and its reverse, are two lands. round-way: a way back without the channel. start-..: what holds of the cycle. kept-start: the first state.
@@ -18,13 +18,13 @@ use Rattle.rules.specs.Terms.{leaves, reverse, enters, missing, there, laid, li
 use Rattle.rules.specs.Ways.{path, inPlay}
 use Rattle.rules.specs.Laying.{back, link, around, cycle, start, rounds, firstChannel, laying}
 use Rattle.laws.proofs.Tests.{neqb→ne, ne→neqb, and-T, T-and}
-use Rattle.laws.proofs.Counts.{flag, flag-T, T-flag, flag-inj, is-not, is-cases, is-apart, is-le, count, zero-of, count-map, map-from, Distinct, distinct-of, distinct-le}
+use Rattle.laws.proofs.Counts.{flag, flag-T, T-flag, flag-inj, is-not, is-cases, is-le, count, zero-of, count-map, map-from, Distinct, distinct-of, distinct-le}
 use Rattle.laws.proofs.Lists.{all-of, seek-finds}
 use Rattle.laws.proofs.Sets.{at-lt}
 use Rattle.laws.proofs.Runs.{reverse-reverse, reverse-channel, reverse-other, channel-darts, channel-of, count-back, length-back, Land, run-keep, land-listed, count-listed, length-listed}
 use Rattle.laws.proofs.Links.{Inside, inside-as, AllThere, there-lt, length-link, link-other, link-run, laid-link, laid-link-other}
 use Rattle.laws.proofs.Trails.{leaves-reverse, enters-reverse, Trail, trail-once, trail-end, trail-leaves, inner-le}
-use Rattle.laws.proofs.Reaches.{whole-of, play-dart, dart-reverse, Way, way-start, Linked, linked-join, reached-iff, but}
+use Rattle.laws.proofs.Reaches.{whole-of, play-dart, dart-reverse, play-reverse, Touched, Wide, Way, way-start, Linked, linked-join, reached-iff, but}
 use Rattle.laws.proofs.Paths.{darts-of, LeadsTo, leads-trail, leads-usable, path-good}
 use Rattle.laws.proofs.Sound.{countAll, Sound}
 use Rattle.laws.proofs.Euler.{lengthAll, Counted, Ports}
@@ -107,7 +107,7 @@ module _ (n : ℕ) (small : n < missing) (even : (z : ℕ) → z < n → reverse
 
 -- ---- the way back without the channel
 
-module _ (np : ℕ) (ps : List ℕ) (on : List Bool) (G : Layable np ps on) (many : 3 ≤ np) (c : ℕ) (o : T (at on c)) where
+module _ (np : ℕ) (ps : List ℕ) (on : List Bool) (G : Layable np ps on) (many : Wide ps on) (c : ℕ) (o : T (at on c)) where
   abbrev okC : ℕ → Bool
   okC d = inPlay on d && not (eqb (d / 2) c)
 
@@ -139,26 +139,23 @@ module _ (np : ℕ) (ps : List ℕ) (on : List Bool) (G : Layable np ps on) (man
   aIn : a < np
   aIn = G .inn (2 * c) start-channel
 
-  bIn : b < np
-  bIn = rw (sym (leaves-reverse ps (2 * c))) (G .inn (reverse (2 * c)) (dart-reverse ps on (G .size2) (2 * c) start-channel))
+  -- the channel's darts are in play, and touch its ends
+  start-play : T (inPlay on (2 * c))
+  start-play = rw (channel-of c) o
 
-  -- a port that is no end of the channel
-  pub start-third : (w : ℕ) × (w < np) × (w ≢ a) × (w ≢ b)
-  start-third =
-      ⊎-elim
-      (λ e. ⊎-elim (λ f. (2, omega arith, omega arith, omega arith)) (λ n. (1, omega arith, omega arith, is-apart 1 b n)) (is-cases 1 b))
-      (λ n. ⊎-elim
-      (λ e. ⊎-elim (λ f. (2, omega arith, omega arith, omega arith)) (λ m. (1, omega arith, is-apart 1 a m, omega arith)) (is-cases 1 a))
-      (λ m. (0, omega arith, is-apart 0 a n, is-apart 0 b m)) (is-cases 0 b))
-      (is-cases 0 a)
+  touchA : Touched ps on a
+  touchA = (2 * c, start-play, refl)
+
+  touchB : Touched ps on b
+  touchB = (reverse (2 * c), play-reverse on (2 * c) start-play, leaves-reverse ps (2 * c))
 
   -- from b to a third port without a, and on to a without b
   pub round-way : (free : ℕ → Bool) → ((q : ℕ) → T (free q)) → Linked ps okC free b a
   round-way free f =
-      let w = start-third in
+      let w = many a b in
       let ab = G .loops (2 * c) start-channel in
-      let v = G .whole a b (w .0) aIn bIn (w .1) (λ e. ab (sym e)) (w .2) in
-      let u = G .whole b (w .0) a bIn (w .1) aIn (w .3) ab in
+      let v = G .whole a b (w .0) touchA touchB (w .1) (λ e. ab (sym e)) (w .2) in
+      let u = G .whole b (w .0) a touchB (w .1) touchA (w .3) ab in
       linked-join ps okC free (v .0, way-avoids a endA free f b (v .0) (w .0) (v .1) (w .2)) (u .0, way-avoids b endB free f (w .0) (u .0) a (u .1) ab)
 
   -- ---- the first state
@@ -202,6 +199,19 @@ module _ (np : ℕ) (ps : List ℕ) (on : List Bool) (G : Layable np ps on) (man
   pub start-way : Trail ps a (2 * c ∷ q) a
   start-way = (refl, start-trail)
 
+  -- its darts are in play
+  pub cycle-play : (z : ℕ) → 1 ≤ count z (2 * c ∷ q) → T (inPlay on z)
+  unfolding count
+  cycle-play z h =
+      ⊎-elim (λ e. subst (λ (w : ℕ). T (inPlay on w)) (sym e) start-play)
+      (λ n. and-T (inPlay on z) (not (eqb (z / 2) c)) (leads-usable ps okC b q a (start-path .0) z (omega arith)) .0) (is-cases z (2 * c))
+
+  pub cycle-laid : (t : List ℕ) → ((z : ℕ) → flag (laid t z) ≡ count z (2 * c ∷ q) + count z (back (2 * c ∷ q))) → (z : ℕ) → T (laid t z) → T (inPlay on z)
+  cycle-laid t laid-so z h =
+      ⊎-elim
+      (λ n. subst (λ (w : ℕ). T (inPlay on w)) (reverse-reverse z) (play-reverse on (reverse z) (cycle-play (reverse z) (omega (arith, laid-so z, flag-T (laid t z) h, count-back z (2 * c ∷ q))))))
+      (cycle-play z) (eq-zero-or-pos (count z (2 * c ∷ q)))
+
   -- the ports of the cycle are the laid ones
   pub start-ports : (t : List ℕ) → ((z : ℕ) → flag (laid t z) ≡ count z (2 * c ∷ q) + count z (back (2 * c ∷ q))) → Ports ps t (map (enters ps) (2 * c ∷ q))
   start-ports t laid-so = record { some = λ z h. one (leaves ps z) (someOf z h); only = onlyOf }
@@ -227,11 +237,12 @@ module _ (np : ℕ) (ps : List ℕ) (on : List Bool) (G : Layable np ps on) (man
   unfolding lengthAll
   start-counted = omega (arith, length-map q (enters ps), length-listed (2 * c ∷ q), length-listed (back (2 * c ∷ q)), length-back (2 * c ∷ q))
 
-  pub kept-start : Kept ps (start np ps on c)
+  pub kept-start : Kept ps on (start np ps on c)
   unfolding start cycle around
   kept-start =
       let h = back-head (2 * c) q in
       record {
+        play = cycle-laid _ (λ z. rw (h .1 .1) (laid-full (length ps) (G .few) (dart-reverse ps on (G .size2)) (2 * c) q (h .0) (h .1 .0) (h .1 .1) start-darts start-once z));
         sound = rw (h .1 .1) (sound-cycle (length ps) (G .few) (dart-reverse ps on (G .size2)) (2 * c) q (h .0) (h .1 .0) (h .1 .1) start-darts start-once);
         long = rw (h .1 .1) (length-link (2 * c) q (2 * c) _ ∙ length-link (h .0) (h .1 .0) (h .0) _ ∙ length-replicate (length ps) missing);
         some = omega arith;
@@ -242,7 +253,7 @@ module _ (np : ℕ) (ps : List ℕ) (on : List Bool) (G : Layable np ps on) (man
 -- ---- laying
 
 -- first cycle with any channel in play, then at most n paths
-pub kept-started : (np : ℕ) (ps : List ℕ) (on : List Bool) → Layable np ps on → 3 ≤ np → (c : ℕ) → T (at on c) → (n : ℕ) → Kept ps (rounds np ps on n (start np ps on c) .state)
+pub kept-started : (np : ℕ) (ps : List ℕ) (on : List Bool) → Layable np ps on → Wide ps on → (c : ℕ) → T (at on c) → (n : ℕ) → Kept ps on (rounds np ps on n (start np ps on c) .state)
 kept-started np ps on G many c o n = kept-rounds np ps on G n (start np ps on c) (kept-start np ps on G many c o)
 
 -- the first channel is in play, where one is
@@ -251,6 +262,6 @@ unfolding firstChannel
 first-play np ps on c o = seek-finds (at on) 0 (length on) c (omega arith) (omega (arith, at-lt on c o)) o
 
 -- The turns and lands are sound whatever the number of paths.
-pub kept-laying : (np : ℕ) (ps : List ℕ) (on : List Bool) → Layable np ps on → 3 ≤ np → (c : ℕ) → T (at on c) → (n : ℕ) → Kept ps (laying np ps on n .state)
+pub kept-laying : (np : ℕ) (ps : List ℕ) (on : List Bool) → Layable np ps on → Wide ps on → (c : ℕ) → T (at on c) → (n : ℕ) → Kept ps on (laying np ps on n .state)
 unfolding laying
 kept-laying np ps on G many c o n = kept-started np ps on G many (firstChannel np ps on) (first-play np ps on c o) n

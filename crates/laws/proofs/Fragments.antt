@@ -28,7 +28,7 @@ use Rattle.laws.proofs.Lists.{any-T, T-any, keep-le, keep-T, T-keep, co
 use Rattle.laws.proofs.Sets.{at-lt, at-set-same, at-set-keeps, at-set-from, at-none, only-is, only-self, length-only, size, size-only, iter-more, iter-length, iter-closed}
 use Rattle.laws.proofs.Runs.{reverse-channel, channel-darts, channel-of}
 use Rattle.laws.proofs.Trails.{leaves-reverse, enters-reverse, channel-opposite}
-use Rattle.laws.proofs.Reaches.{Whole, whole-of, play-dart, dart-reverse, play-reverse, larger-keeps, length-larger, Way, way-start, Linked, linked-join, linked-back, reached-from, way-closed, but, Uncut}
+use Rattle.laws.proofs.Reaches.{Whole, whole-of, play-dart, dart-reverse, play-reverse, larger-keeps, length-larger, Way, way-start, Linked, linked-join, linked-back, reached-from, way-closed, but, Touched, Firm}
 
 -- ---- the laid ports
 
@@ -350,13 +350,19 @@ module _ (np : ℕ) (ps : List ℕ) (on lp : List Bool) (size2 : length ps ≡ 2
       alone-stays k c shut al (enters ps d) w y (h .3) f
       (inside-holds k shut (enters ps d) (reverse d ∷ []) (leaves ps d) (play-reverse on d (h .0), leaves-reverse ps d, free, enters-reverse ps d) here)
 
-  module _ (whole : Uncut np ps on) (laid-in : (p : ℕ) → T (at lp p) → p < np) (second : (c : ℕ) → (w : ℕ) × T (at lp w) × (w ≢ c)) where
+  -- the root is touched
+  pub root-touched : (k : ℕ) (R : Rooted np ps on lp k) → T (at on k) → Touched ps on (R .0)
+  root-touched k R o =
+      let d : T (inPlay on (2 * k)) = rw (channel-of k) o in
+      ⊎-elim (λ e. (2 * k, d, sym (e .0))) (λ e. (reverse (2 * k), play-reverse on (2 * k) d, leaves-reverse ps (2 * k) ∙ sym (e .0))) (R .2)
+
+  module _ (whole : Firm ps on) (laid-in : (p : ℕ) → T (at lp p) → p < np) (touched : (p : ℕ) → T (at lp p) → Touched ps on p) (second : (c : ℕ) → (w : ℕ) × T (at lp w) × (w ≢ c)) where
     pub alone-not : (k c : ℕ) → Rooted np ps on lp k → T (at on k) → T (at lp c) → Alone k c → ⊥
     alone-not k c R o lc al =
         let w = second c in
         let un = inside-unlaid np ps on lp k (R .0) (root-inside k R o) in
         let rc : R .0 ≢ c = (λ e. T-not (at lp (R .0)) un (rw e lc)) in
-        let m = whole c (R .0) (w .0) (laid-in c lc) (root-in k R o) (laid-in (w .0) (w .1)) rc (w .2) in
+        let m = whole c (R .0) (w .0) (touched c lc) (root-touched k R o) (touched (w .0) (w .1)) rc (w .2) in
         T-not (at lp (w .0)) (inside-unlaid np ps on lp k (w .0) (alone-stays k c (rooted-closed k R o) al (R .0) (m .0) (w .0) (m .1) (ne→neqb (w .0) c (w .2)) (root-inside k R o))) (w .1)
 
     pub contacts-another : (k c : ℕ) → T (at on k) → leaves ps (2 * k) ≢ enters ps (2 * k) → T (at lp c) → (p : ℕ) × (1 ≤ count p (contactsAt k)) × (p ≢ c)

@@ -380,7 +380,7 @@ rising-sound t ls S r = go ls (S .follow) (λ z. omega (arith, S .cover z, flag-
 
 -- ---- a state that is kept
 
-module _ (ps : List ℕ) (s : State) (few : length ps < missing) (K : Kept ps s) (L : ListedAll s) where
+module _ (ps : List ℕ) (on : List Bool) (s : State) (few : length ps < missing) (K : Kept ps on s) (L : ListedAll s) where
   pub headed-kept : All Headed (s .lands)
   headed-kept = headed-sound (s .turns) (s .lands) (omega (arith, K .long)) (K .sound) L
 
@@ -397,11 +397,11 @@ module _ (b : List ℕ) (p : Plate) (h : readPlate b ≡ given p) (n : ℕ) wher
 
   -- Every land begins with its smallest dart.
   pub headed-laidOut : All Headed (laidOut p n .state .lands)
-  headed-laidOut = headed-kept (p .ends) (laidOut p n .state) (layable p (accepted b p h) .few) (kept-laidOut b p h n) listed-laidOut
+  headed-laidOut = headed-kept (p .ends) (wholePlate p) (laidOut p n .state) (layable p (accepted b p h) .few) (kept-laidOut b p h n) listed-laidOut
 
   -- The lands walked afresh from the turns are the lands kept, in order of first dart.
   pub landsOf-laidOut : landsOf (laidOut p n .state .turns) ≡ inOrder (laidOut p n .state .lands)
-  landsOf-laidOut = landsOf-kept (p .ends) (laidOut p n .state) (layable p (accepted b p h) .few) (kept-laidOut b p h n) listed-laidOut
+  landsOf-laidOut = landsOf-kept (p .ends) (wholePlate p) (laidOut p n .state) (layable p (accepted b p h) .few) (kept-laidOut b p h n) listed-laidOut
 
   -- They are as many.
   pub count-laidOut : length (landsOf (laidOut p n .state .turns)) ≡ length (laidOut p n .state .lands)

@@ -14,7 +14,7 @@ use native.Mathlib.Omega.{arith}
 use lib.Dec.{T, not-T, T-not}
 use lib.ListN.{length, getD}
 use Rattle.rules.specs.Lists.{from, any, all, keep, seek}
-use Rattle.laws.proofs.Tests.{cond-cases, T-is, and-T, or-T, T-or₁, T-or₂, not-either}
+use Rattle.laws.proofs.Tests.{cond-cases, T-is, and-T, T-and, or-T, T-or₁, T-or₂, not-either}
 use Rattle.laws.proofs.Counts.{is, is-self, is-not, is-cases, is-apart, count}
 
 -- ---- tests over numbers
@@ -33,6 +33,11 @@ T-any f (x ∷ l) d h t =
 
 pub not-any : (f : ℕ → Bool) (l : List ℕ) (d : ℕ) → T (not (any f l)) → 1 ≤ count d l → T (not (f d))
 not-any f l d t h = not-T (f d) (λ k. T-not (any f l) t (T-any f l d h k))
+
+pub T-all : (f : ℕ → Bool) (l : List ℕ) → ((d : ℕ) → 1 ≤ count d l → T (f d)) → T (all f l)
+unfolding all count
+T-all f [] h = tt
+T-all f (x ∷ l) h = T-and (f x) (all f l) (h x (omega (arith, is-self x))) (T-all f l (λ d k. h d (omega arith)))
 
 pub all-T : (f : ℕ → Bool) (l : List ℕ) (d : ℕ) → T (all f l) → 1 ≤ count d l → T (f d)
 unfolding all count

@@ -14,9 +14,8 @@ use Rattle.rules.specs.Lists.{from, any, all, seek, number}
 use Rattle.rules.specs.Terms.{leaves, reverse, enters, dartsAt}
 use Rattle.rules.specs.Files.{Format, portsIn, channelsIn, pairsAt, endsIn, fileLength}
 use Rattle.rules.specs.Refusals.{Test, passed, refuse, refuseAt, short, otherMark, otherVersion, markTests, outside, otherLength, countTests, strange, loop, samePair, metEarlier, placeOfChannel, pairTests, fileTests, itself, wildTurn, awayTurn, oneRing, brokenRing, turnTests, lentTest}
-use Rattle.laws.proofs.Tests.{cond-cases, eq→eqb, ne→neqb, or-T, T-and}
-use Rattle.laws.proofs.Counts.{is-self, count}
-use Rattle.laws.proofs.Lists.{any-T, from-lt, seek-found}
+use Rattle.laws.proofs.Tests.{cond-cases, eq→eqb, ne→neqb, or-T}
+use Rattle.laws.proofs.Lists.{T-all, any-T, from-lt, seek-found}
 use Rattle.laws.proofs.Trails.{leaves-reverse}
 use Rattle.laws.proofs.Runs.{reverse-below}
 use Rattle.laws.proofs.Refusals.{Marked, Sized, Paired, Tested}
@@ -41,12 +40,6 @@ neither a b f g = not-T (a || b) (λ t. ⊎-elim f g (or-T a b t))
 not-not-T : (a : Bool) → T a → T (not (not a))
 not-not-T true t = tt
 not-not-T false t = absurd t
-
--- where every number of l passes
-pub T-all : (f : ℕ → Bool) (l : List ℕ) → ((d : ℕ) → 1 ≤ count d l → T (f d)) → T (all f l)
-unfolding all count
-T-all f [] h = tt
-T-all f (x ∷ l) h = T-and (f x) (all f l) (h x (omega (arith, is-self x))) (T-all f l (λ d k. h d (omega arith)))
 
 -- ---- 1 to 3
 

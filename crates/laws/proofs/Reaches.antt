@@ -5,7 +5,10 @@
 --   Linked ps ok free p y   some way leads from p to y
 --   but c p                 port p is not c
 --   Uncut np ps on          no port cuts: between any two others a way leads that avoids it, by channels in play
--- mark-.., grow-..: what one step adds. way-append, way-back, linked-join: ways are joined and walked backwards. reached-iff: the ports reached from y are those from which a way leads to y. uncut-of: no port cuts where without each every port is linked to one.
+--   Touched ps on p         a channel in play touches port p
+--   Firm ps on              no port cuts what the channels in play touch: between any two others of these ports a way leads that avoids it, by channels in play
+--   Wide ps on              the channels in play touch three ports: one other than any two
+-- mark-.., grow-..: what one step adds. way-append, way-back, linked-join: ways are joined and walked backwards. reached-iff: the ports reached from y are those from which a way leads to y. uncut-of: no port cuts where without each every port is linked to one. touched-in: a port that is touched is a port. firm-of, wide-of: where no port cuts, none cuts what is touched, and three are touched.
 -- Assumes nothing.
 use mathlib.Core.Path.{_≡_, refl, subst, sym, _∙_}
 use mathlib.Core.Logic.{_⊎_, ⊎-elim, inr, inl, _↔_, _≢_}
@@ -21,7 +24,7 @@ use Rattle.rules.specs.Terms.{leaves, reverse, enters}
 use Rattle.rules.specs.Ways.{only, iter, mark, grow, larger, inPlay}
 use Rattle.rules.specs.Laying.{back}
 use Rattle.laws.proofs.Tests.{cond-cases, T-is, ne→neqb, and-T, T-and}
-use Rattle.laws.proofs.Counts.{is-self, is-cases, count}
+use Rattle.laws.proofs.Counts.{is-self, is-cases, is-apart, count}
 use Rattle.laws.proofs.Lists.{count-from}
 use Rattle.laws.proofs.Sets.{at-lt, at-set-same, at-set-keeps, at-set-from, only-is, only-self, length-only, Sub, size-only, iter-more, iter-length, iter-closed}
 use Rattle.laws.proofs.Runs.{reverse-below, reverse-channel}
@@ -194,3 +197,43 @@ pub uncut-of : (np : ℕ) (ps : List ℕ) (on : List Bool)
 uncut-of np ps on h c p q lc lp lq hp hq =
     let o = h c lc in
     linked-join ps (inPlay on) (but c) (o .2 p lp hp) (linked-back ps (inPlay on) (but c) (play-reverse on) (ne→neqb (o .0) c (o .1)) (o .2 q lq hq))
+
+-- ---- the ports that channels in play touch
+
+abbrev pub Touched : List ℕ → List Bool → ℕ → Type 0
+Touched ps on p = (d : ℕ) × T (inPlay on d) × (leaves ps d ≡ p)
+
+abbrev pub Firm : List ℕ → List Bool → Type 0
+Firm ps on = (c p q : ℕ) → Touched ps on c → Touched ps on p → Touched ps on q → p ≢ c → q ≢ c → Linked ps (inPlay on) (but c) p q
+
+abbrev pub Wide : List ℕ → List Bool → Type 0
+Wide ps on = (a b : ℕ) → (w : ℕ) × Touched ps on w × (w ≢ a) × (w ≢ b)
+
+module _ (np : ℕ) (ps : List ℕ) (on : List Bool) where
+  pub touched-in : length ps ≡ 2 * length on → ((d : ℕ) → d < length ps → leaves ps d < np) → (p : ℕ) → Touched ps on p → p < np
+  touched-in size2 inn p t = subst (λ (r : ℕ). r < np) (t .2) (inn (t .0) (play-dart ps on size2 (t .0) (t .1)))
+
+  pub firm-of : ((p : ℕ) → Touched ps on p → p < np) → Uncut np ps on → Firm ps on
+  firm-of inn h c p q tc tp tq = h c p q (inn c tc) (inn p tp) (inn q tq)
+
+  -- of three ports one is other than any two
+  pub third : 3 ≤ np → (a b : ℕ) → (w : ℕ) × (w < np) × (w ≢ a) × (w ≢ b)
+  third many a b =
+      ⊎-elim
+      (λ e. ⊎-elim (λ f. (2, omega arith, omega arith, omega arith)) (λ n. (1, omega arith, omega arith, is-apart 1 b n)) (is-cases 1 b))
+      (λ n. ⊎-elim
+      (λ e. ⊎-elim (λ f. (2, omega arith, omega arith, omega arith)) (λ m. (1, omega arith, is-apart 1 a m, omega arith)) (is-cases 1 a))
+      (λ m. (0, omega arith, is-apart 0 a n, is-apart 0 b m)) (is-cases 0 b))
+      (is-cases 0 a)
+
+  -- a port from which a way leads to another is touched
+  pub linked-touched : (ok free : ℕ → Bool) → ((d : ℕ) → T (ok d) → T (inPlay on d)) → (p q : ℕ) → p ≢ q → Linked ps ok free p q → Touched ps on p
+  linked-touched ok free play p q ne ([], h) = absurd (ne h)
+  linked-touched ok free play p q ne (d ∷ w, h) = (d, play d (h .0), h .1)
+
+  pub wide-of : 3 ≤ np → Uncut np ps on → Wide ps on
+  wide-of many h a b =
+      let w = third many a b in
+      let v = third many (w .0) (w .0) in
+      let c = third many (w .0) (v .0) in
+      (w .0, linked-touched (inPlay on) (but (c .0)) (λ d o. o) (w .0) (v .0) (λ e. v .2 (sym e)) (h (c .0) (w .0) (v .0) (c .1) (w .1) (v .1) (λ e. c .2 (sym e)) (λ e. c .3 (sym e))), w .2, w .3)

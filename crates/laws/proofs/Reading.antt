@@ -17,7 +17,7 @@ use Rattle.rules.specs.Files.{limits1, plateFile, portsIn, channelsIn, endsIn}
 use Rattle.rules.specs.Ways.{inPlay}
 use Rattle.rules.specs.Refusals.{given, passed, fileTests, pieceTests, Plate, readPlate}
 use Rattle.rules.specs.Laying.{wholePlate, laidOut}
-use Rattle.laws.proofs.Reaches.{Linked, Uncut}
+use Rattle.laws.proofs.Reaches.{Linked, Uncut, touched-in, firm-of, wide-of}
 use Rattle.laws.proofs.Rounds.{Layable, Kept}
 use Rattle.laws.proofs.FirstCycle.{kept-laying}
 use Rattle.laws.proofs.Refusals.{given-inj, then-given, paired-once, Tested, fileTests-passed, length-ends, pieces-joined, pieces-uncut}
@@ -79,7 +79,7 @@ layable p A = record {
   few = omega (arith, A .size, A .channels .1);
   inn = A .inn;
   loops = A .loops;
-  whole = A .uncut;
+  whole = firm-of (p .ports) (p .ends) (wholePlate p) (touched-in (p .ports) (p .ends) (wholePlate p) (omega (arith, A .size, length-replicate (p .channels) true)) (A .inn)) (A .uncut);
 }
 
 -- channel 0 is in play
@@ -88,8 +88,8 @@ unfolding at
 channel-play p A = subst T (sym (getD-replicate (p .channels) 0 true false (omega (arith, A .channels .0)))) tt
 
 -- Whatever the number of paths, the state left has all that rounds keep.
-pub kept-laidOut : (b : List ℕ) (p : Plate) → readPlate b ≡ given p → (n : ℕ) → Kept (p .ends) (laidOut p n .state)
+pub kept-laidOut : (b : List ℕ) (p : Plate) → readPlate b ≡ given p → (n : ℕ) → Kept (p .ends) (wholePlate p) (laidOut p n .state)
 unfolding laidOut
 kept-laidOut b p h n =
     let A = accepted b p h in
-    kept-laying (p .ports) (p .ends) (wholePlate p) (layable p A) (A .ports .0) 0 (channel-play p A) n
+    kept-laying (p .ports) (p .ends) (wholePlate p) (layable p A) (wide-of (p .ports) (p .ends) (wholePlate p) (A .ports .0) (A .uncut)) 0 (channel-play p A) n

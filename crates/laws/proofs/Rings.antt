@@ -25,6 +25,7 @@ use Rattle.laws.proofs.Runs.{reverse-reverse, count-back, Land, run-cut
 use Rattle.laws.proofs.Trails.{enters-reverse, Trail, inner, trail-leaves, trail-enters}
 use Rattle.laws.proofs.Corners.{Closed, closed-of, closed-turn}
 use Rattle.laws.proofs.Sound.{Sound}
+use Rattle.laws.proofs.Reaches.{Wide}
 use Rattle.laws.proofs.Rounds.{Layable}
 use Rattle.laws.proofs.FirstCycle.{kept-laying}
 use Rattle.laws.proofs.Steps.{Cycled, Parted, parted-old, steps-laying}
@@ -306,7 +307,7 @@ module _ (ps : List ℕ) (s : State) (K : Sound (s .turns) (s .lands)) (long : l
 
 -- ---- any number of paths
 
-module _ (np : ℕ) (ps : List ℕ) (on : List Bool) (G : Layable np ps on) (many : 3 ≤ np) (c : ℕ) (o : T (at on c)) where
+module _ (np : ℕ) (ps : List ℕ) (on : List Bool) (G : Layable np ps on) (many : Wide ps on) (c : ℕ) (o : T (at on c)) where
   pub ringed-laying : (n : ℕ) → Ringed ps (laying np ps on n .state .turns)
   ringed-laying n =
       steps-laying np ps on G many (λ s. All (Closed ps) (s .lands) × Ringed ps (s .turns))

@@ -1,36 +1,34 @@
 -- A sheet that is written reads back (document 01, "Files", "Reading a sheet" and refusal 16).
 --   Fits f v e ends turns     the numbers fit the bytes that the format f gives them, and the lists have 2e entries
 -- number-bytes, numbers-bytes: bytes that are written are the number, or the numbers, that they were written for. ..-of: the parts of a file that is written, and its length; tested-of: what 1 to 9 look for.
--- turn-laid: the turn of a laid dart is a laid dart. sheet-fits, sheet-passes, sheet-reads: the sheet of an accepted plate with any turns passes 1 to 9, and is read as it was written where the turns pass 12 to 14.
+-- sheet-fits, sheet-passes, sheet-reads: the sheet of an accepted plate with any turns passes 1 to 9, and is read as it was written where the turns pass 12 to 14.
 -- wild-flat, turns-read, sheet-read, sheet-judged: the sheet of a plate that is FLAT passes 12; where each turn stays at its port and each port's darts form one ring it passes 13 and 14, and is judged flat with the lands that were kept, in order of first dart.
 -- whole-word: without a cap the word is FLAT or STUCK. write-given, write-refused, write-word: the sheet is written exactly where it is FLAT, and refused with 16 and the name exactly where it is STUCK.
 -- Assumes nothing.
 use mathlib.Core.Path.{_≡_, refl, subst, sym, ap, _∙_}
 use mathlib.Core.Logic.{_⊎_, inl, inr, ⊎-elim, _↔_}
-use mathlib.Core.Bool.{Bool, true}
+use mathlib.Core.Bool.{true}
 use mathlib.Core.List.{List, [], _∷_, _++_, map, append-assoc, append-nil}
 use Prim.Native.Nat.{ℕ, zero, suc, _+_, _*_, _/_, _%_, _^_, _≤_, _<_}
-use native.Mathlib.Nat.{not-suc-le-zero, eq-zero-or-pos, pow-suc, suc-mul}
+use native.Mathlib.Nat.{not-suc-le-zero, pow-suc, suc-mul}
 use native.Mathlib.Omega.{arith}
 use lib.Dec.{T}
 use lib.ListN.{length, getD, length-append, List·getD-append}
 use lib.Seq.{getD-append-add}
 use Rattle.rules.specs.Lists.{concat, text, bytes, number, numbers}
-use Rattle.rules.specs.Terms.{leaves, laid, next, reverse, dartsAt}
+use Rattle.rules.specs.Terms.{leaves, dartsAt}
 use Rattle.rules.specs.Files.{Format, plateFile, sheetFile, portsIn, channelsIn, pairsAt, endsIn, turnsAt, turnsIn, fileLength, fileOf}
 use Rattle.rules.specs.Refusals.{given, refused, _>>_, passed, fileTests, oneRing, turnTests, Plate, readPlate, readTurns}
 use Rattle.rules.specs.Laying.{Word, FLAT, STUCK, PARTIAL, withoutCap, laidOut, landsOfFlat}
 use Rattle.rules.specs.Sheets.{isFlat, judged, judgeSheet, stuckTest, writeSheet}
 use Rattle.laws.proofs.Tests.{eqb-yes}
-use Rattle.laws.proofs.Counts.{flag-T, T-flag, is, is-self, is-cases, count}
 use Rattle.laws.proofs.Lists.{All}
-use Rattle.laws.proofs.Runs.{reverse-reverse, Run, Land}
 use Rattle.laws.proofs.Links.{laid-lt}
-use Rattle.laws.proofs.Sound.{countAll, Sound}
 use Rattle.laws.proofs.Refusals.{refused-not, given-inj, Paired, Tested, fileTests-passed}
 use Rattle.laws.proofs.Reading.{readPlate-given, accepted, kept-laidOut}
 use Rattle.laws.proofs.InOrder.{inOrder, length-inOrder, landsOf-laidOut}
 use Rattle.laws.proofs.Counting.{flat-laid, paths-most, lands-flat, partial-paths}
+use Rattle.laws.proofs.Turns.{turn-laid}
 use Rattle.laws.proofs.Passing.{tested-pass, turns-pass, lent-pass}
 
 -- ---- numbers in bytes
@@ -171,34 +169,6 @@ module _ (f : Format) (v e : ℕ) (ends turns : List ℕ) (F : Fits f v e ends t
     paired = rw (portsIn-of, endsIn-of, channelsIn-of) P;
   }
 
--- ---- a turn that is laid leads to a laid dart
-
-run-next : (t : List ℕ) (d : ℕ) (l : List ℕ) (e z : ℕ) → Run t d l e → 1 ≤ count z (d ∷ l) → (next t z ≡ e) ⊎ (1 ≤ count (next t z) l)
-unfolding count
-run-next t d [] e z h k = ⊎-elim (λ q. inl (ap (next t) q ∙ h)) (λ n. absurd (not-suc-le-zero {n = 0} (omega arith))) (is-cases z d)
-run-next t d (x ∷ l) e z h k =
-    ⊎-elim (λ q. inr (omega (arith, ap (λ (w : ℕ). is w x) (ap (next t) q ∙ h .0), is-self x)))
-    (λ n. ⊎-elim inl (λ c. inr (omega arith)) (run-next t x l e z (h .1) (omega arith))) (is-cases z d)
-
-pub land-next : (t l : List ℕ) → Land t l → (z : ℕ) → 1 ≤ count z l → 1 ≤ count (next t z) l
-unfolding count
-land-next t [] h z k = absurd h
-land-next t (d ∷ l) h z k = ⊎-elim (λ e. omega (arith, ap (λ (w : ℕ). is w d) e, is-self d)) (λ c. omega arith) (run-next t d l d z h k)
-
-lands-next : (t : List ℕ) (ls : List (List ℕ)) → All (Land t) ls → (z : ℕ) → 1 ≤ countAll z ls → 1 ≤ countAll (next t z) ls
-unfolding countAll
-lands-next t [] a z k = absurd (not-suc-le-zero k)
-lands-next t (l ∷ ls) a z k = ⊎-elim (λ e. omega (arith, lands-next t ls (a .1) z (omega arith))) (λ c. omega (arith, land-next t l (a .0) z c)) (eq-zero-or-pos (count z l))
-
--- With sound turns and lands, the turn of a laid dart is a laid dart.
-pub turn-laid : (t : List ℕ) (ls : List (List ℕ)) → Sound t ls → (z : ℕ) → T (laid t z) → T (laid t (getD t z 0))
-unfolding next
-turn-laid t ls S z h =
-    let r : T (laid t (reverse z)) = subst (λ (b : Bool). T b) (sym (S .pair z)) h in
-    let n : T (laid t (next t (reverse z))) =
-    T-flag (laid t (next t (reverse z))) (omega (arith, S .cover (next t (reverse z)), lands-next t ls (S .follow) (reverse z) (omega (arith, S .cover (reverse z), flag-T (laid t (reverse z)) r)))) in
-    subst (λ (w : ℕ). T (laid t (getD t w 0))) (reverse-reverse z) n
-
 -- ---- the sheet of a plate
 
 all-get : (P : ℕ → Type 0) (l : List ℕ) → ((i : ℕ) → i < length l → P (getD l i 0)) → All P l
@@ -256,7 +226,7 @@ module _ (b : List ℕ) (p : Plate) (h : readPlate b ≡ given p) where
     wild-flat d l =
         let K = kept-laidOut b p h n in
         let t = laidOut p n .state .turns in
-        omega (arith, K .long, laid-lt t (getD t d 0) (turn-laid t (laidOut p n .state .lands) (K .sound) d (flat-laid b p h n w d l)))
+        omega (arith, K .long, laid-lt t (getD t d 0) (turn-laid (p .ends) (laidOut p n .state) (K .sound) d (flat-laid b p h n w d l)))
 
     module _ (stays : (d : ℕ) → d < length (p .ends) → leaves (p .ends) (getD (laidOut p n .state .turns) d 0) ≡ leaves (p .ends) d)
         (rings : (q : ℕ) → q < p .ports → T (oneRing (laidOut p n .state .turns) (dartsAt (p .ends) q))) where

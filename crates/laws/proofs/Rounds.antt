@@ -1,6 +1,6 @@
 -- A round keeps the turns and lands sound (document 01, "Laying"), and so does any number of rounds.
 --   Layable np ps on    a plate that can be laid by the channels in play: what the reader's tests leave
---   Kept ps s           what holds of the state after every path: sound turns and lands, a land more for each path, and the count of ports, channels and lands
+--   Kept ps on s        what holds of the state after every path: sound turns and lands, a land more for each path, and the count of ports, channels and lands
 --   tn, lp              of a state s: its turns, and its laid ports
 --   fr, ok, cs          of a choice: its fragment, the fragment's darts, its contacts
 --   i, x, y, l, r, a, b, q      of the path that is laid: the land's number, the two smallest contacts, the land, the land from x on, A, B, the path
@@ -12,22 +12,23 @@ use mathlib.Core.Logic.{_≢_, ⊎-elim}
 use mathlib.Core.Bool.{Bool, false, _||_}
 use mathlib.Core.List.{List, [], _∷_, _++_, map}
 use Prim.Native.Nat.{ℕ, _*_, _<_, _≤_, _+_}
+use native.Mathlib.Nat.{eq-zero-or-pos}
 use native.Mathlib.Omega.{arith}
 use lib.Dec.{T, eqb, eqb→eq, T-not}
 use lib.ListN.{length, replicate, length-replicate, getD, length-append, length-set}
 use Rattle.rules.specs.Lists.{from, all, at}
 use Rattle.rules.specs.Terms.{leaves, reverse, enters, missing, laid, visits}
-use Rattle.rules.specs.Ways.{only, iter, larger, path}
+use Rattle.rules.specs.Ways.{only, iter, larger, path, inPlay}
 use Rattle.rules.specs.Laying.{State, back, before, since, Fragment, Choice, splitTurns, splitLands, admissible, within, fragmentAt, contactsOf, choiceOf, lay, rounds}
 use Rattle.laws.proofs.Tests.{or-T}
-use Rattle.laws.proofs.Counts.{flag, T-flag, is-cases, is-apart, count, count-head, count-append, zero-of, Distinct, distinct-le}
+use Rattle.laws.proofs.Counts.{flag, flag-T, T-flag, is-cases, is-apart, count, count-head, count-append, zero-of, Distinct, distinct-le}
 use Rattle.laws.proofs.Lists.{all-T, count-from}
 use Rattle.laws.proofs.Sets.{at-lt, at-none}
-use Rattle.laws.proofs.Runs.{Land, land-turn}
+use Rattle.laws.proofs.Runs.{reverse-reverse, count-back, Land, land-turn}
 use Rattle.laws.proofs.Links.{laid-lt}
 use Rattle.laws.proofs.Split.{before-since, since-head, before-head, visits-same, length-split}
 use Rattle.laws.proofs.Trails.{leaves-reverse, Trail, trail-once, inner, length-inner, inner-leaves, inner-le}
-use Rattle.laws.proofs.Reaches.{whole-of, play-dart, dart-reverse, reached-iff, Uncut}
+use Rattle.laws.proofs.Reaches.{whole-of, play-dart, dart-reverse, play-reverse, reached-iff, Touched, Firm}
 use Rattle.laws.proofs.Paths.{darts-of, LeadsTo, leads-trail, leads-usable, path-good}
 use Rattle.laws.proofs.Sound.{all-at, count-at, Sound, sound-laid, sound-split}
 use Rattle.laws.proofs.Euler.{Counted, counted-split, Ports, ports-split}
@@ -43,10 +44,12 @@ pub record Layable (np : ℕ) (ps : List ℕ) (on : List Bool) : Type 0 where
   pub inn : (d : ℕ) → d < length ps → leaves ps d < np
   -- no channel has equal ends
   pub loops : (d : ℕ) → d < length ps → leaves ps d ≢ enters ps d
-  -- no port cuts
-  pub whole : Uncut np ps on
+  -- no port cuts what the channels in play touch
+  pub whole : Firm ps on
 
-pub record Kept (ps : List ℕ) (s : State) : Type 0 where
+pub record Kept (ps : List ℕ) (on : List Bool) (s : State) : Type 0 where
+  -- what is laid is in play
+  pub play : (z : ℕ) → T (laid (s .turns) z) → T (inPlay on z)
   pub sound : Sound (s .turns) (s .lands)
   pub long : length (s .turns) ≡ length ps
   pub some : 1 ≤ length (s .lands)
@@ -59,7 +62,7 @@ pub land-head : (t l : List ℕ) → Land t l → (d : ℕ) × (1 ≤ count d l)
 land-head t [] h = absurd h
 land-head t (d ∷ l) h = (d, count-head d l)
 
-module _ (np : ℕ) (ps : List ℕ) (on : List Bool) (G : Layable np ps on) (s : State) (K : Kept ps s) where
+module _ (np : ℕ) (ps : List ℕ) (on : List Bool) (G : Layable np ps on) (s : State) (K : Kept ps on s) where
   abbrev tn : List ℕ
   tn = s .turns
 
@@ -81,6 +84,10 @@ module _ (np : ℕ) (ps : List ℕ) (on : List Bool) (G : Layable np ps on) (s :
 
   pub kept-port : (p : ℕ) → T (at lp p) → p < np
   kept-port p h = omega (arith, at-lt lp p h, length-laidPorts ps tn (from 0 (length ps)) (replicate np false), length-replicate np false)
+
+  pub kept-touched : (p : ℕ) → T (at lp p) → Touched ps on p
+  kept-touched p h =
+      ⊎-elim (λ m. absurd (at-none np p m)) (λ z. (z .0, K .play (z .0) (z .1), z .2)) (laidPorts-from ps tn (from 0 (length ps)) (replicate np false) p h)
 
   pub kept-land : (i z : ℕ) → 1 ≤ count z (getD (s .lands) i []) → T (laid tn z)
   kept-land i z h = T-flag (laid tn z) (omega (arith, count-at z (s .lands) i, K .sound .cover z))
@@ -137,7 +144,7 @@ module _ (np : ℕ) (ps : List ℕ) (on : List Bool) (G : Layable np ps on) (s :
     q = path np ps ok (at (fr .ports)) x y
 
     pub lay-contacts : (2 ≤ length cs) × (x ≢ y) × (1 ≤ count x cs) × (1 ≤ count y cs)
-    lay-contacts = contacts-two np ps on lp (G .size2) (G .inn) (G .whole) kept-port kept-second k o (G .loops (2 * k) (omega (arith, at-lt on k o, G .size2)))
+    lay-contacts = contacts-two np ps on lp (G .size2) (G .inn) (G .whole) kept-port kept-touched kept-second k o (G .loops (2 * k) (omega (arith, at-lt on k o, G .size2)))
 
     pub lay-contact : (p : ℕ) → 1 ≤ count p cs → T (at lp p) × ((d : ℕ) × T (ok d) × (leaves ps d ≡ p))
     lay-contact p h = contacts-from np ps on lp (G .size2) (G .inn) k p h
@@ -209,6 +216,15 @@ module _ (np : ℕ) (ps : List ℕ) (on : List Bool) (G : Layable np ps on) (s :
         (sound-laid tn (s .lands) (K .sound) (omega (arith, K .long, G .few)) kept-even i (lay-fits .0) (A .0) (A .1 .0) (B .0) (B .1 .0) q
         (subst (Land tn) lay-cut lay-land) (λ w. sym (ap (count w) lay-cut) ∙ sym (lay-same w)) lay-fresh lay-once z)
 
+    pub lay-play : (z : ℕ) → T (laid (splitTurns a b q tn) z) → T (inPlay on z)
+    lay-play z h =
+        ⊎-elim
+        (λ n. ⊎-elim (λ m. K .play z (T-flag (laid tn z) (omega (arith, lay-laid z, flag-T (laid (splitTurns a b q tn) z) h))))
+        (λ c. subst (λ (w : ℕ). T (inPlay on w)) (reverse-reverse z) (play-reverse on (reverse z) (within-play np ps on fr (reverse z) (leads-usable ps ok x q y (lay-path .0) (reverse z) (omega (arith, c, count-back z q))))))
+        (eq-zero-or-pos (count z (back q))))
+        (λ c. within-play np ps on fr z (leads-usable ps ok x q y (lay-path .0) z c))
+        (eq-zero-or-pos (count z q))
+
     -- ---- the count
 
     abbrev P : List ℕ
@@ -261,13 +277,14 @@ module _ (np : ℕ) (ps : List ℕ) (on : List Bool) (G : Layable np ps on) (s :
             (length-inner ps d m ∙ ap length (sym e))),
       )
 
-  pub kept-lay : (c : Choice) → Sensible np ps on s c → Open c → Kept ps (lay np ps on s c)
+  pub kept-lay : (c : Choice) → Sensible np ps on s c → Open c → Kept ps on (lay np ps on s c)
   unfolding lay choiceOf splitLands
   kept-lay c h p =
-      subst (λ (e : Choice). Open e → Kept ps (lay np ps on s e)) (sym (h .1))
+      subst (λ (e : Choice). Open e → Kept ps on (lay np ps on s e)) (sym (h .1))
       (λ fit.
       let q₀ = lay-head (h .0) (h .2) (h .3) fit in
       record {
+        play = lay-play (h .0) (h .2) (h .3) fit;
         sound = lay-sound (h .0) (h .2) (h .3) fit;
         long = length-split _ _ _ tn ∙ K .long;
         some = simp length-append (omega arith);
@@ -276,5 +293,5 @@ module _ (np : ℕ) (ps : List ℕ) (on : List Bool) (G : Layable np ps on) (s :
       }) p
 
 -- after any number of rounds
-pub kept-rounds : (np : ℕ) (ps : List ℕ) (on : List Bool) → Layable np ps on → (n : ℕ) (s : State) → Kept ps s → Kept ps (rounds np ps on n s .state)
-kept-rounds np ps on G n s K = rounds-keep np ps on (Kept ps) (kept-lay np ps on G) n s K
+pub kept-rounds : (np : ℕ) (ps : List ℕ) (on : List Bool) → Layable np ps on → (n : ℕ) (s : State) → Kept ps on s → Kept ps on (rounds np ps on n s .state)
+kept-rounds np ps on G n s K = rounds-keep np ps on (Kept ps on) (kept-lay np ps on G) n s K

@@ -20,7 +20,7 @@ use Rattle.laws.proofs.Counts.{flag, T-flag, flag-le, count, count-appe
 use Rattle.laws.proofs.Lists.{all-T, All, all-snoc}
 use Rattle.laws.proofs.Split.{before-since, since-head, before-head, visits-same}
 use Rattle.laws.proofs.Trails.{Trail, inner}
-use Rattle.laws.proofs.Reaches.{dart-reverse}
+use Rattle.laws.proofs.Reaches.{dart-reverse, Wide}
 use Rattle.laws.proofs.Sound.{count-at, all-set, Sound}
 use Rattle.laws.proofs.Choices.{Open, laidNow, Sensible, rounds-keep}
 use Rattle.laws.proofs.Rounds.{Layable, Kept, kept-laid, kept-lay, lay-contacts, lay-fresh, lay-fits, lay-same, lay-A, lay-B, lay-cut, lay-laid, lay-head, lay-distinct, lay-way, lay-between}
@@ -72,7 +72,7 @@ pub record Parted (ps : List ℕ) (s z : State) : Type 0 where
 
 -- ---- one path
 
-module _ (np : ℕ) (ps : List ℕ) (on : List Bool) (G : Layable np ps on) (s : State) (K : Kept ps s) where
+module _ (np : ℕ) (ps : List ℕ) (on : List Bool) (G : Layable np ps on) (s : State) (K : Kept ps on s) where
   module _ (k : ℕ) (u : laid (s .turns) (2 * k) ≡ false) (o : T (at on k))
       (fit : 1 ≤ length (admissible ps (contactsOf np ps on (laidNow np ps s) (fragmentAt np ps on (laidNow np ps s) k)) 0 (s .lands))) where
     abbrev lp : List Bool
@@ -172,7 +172,7 @@ all-parted ps s z K D P h k C =
 
 -- ---- the first cycle
 
-pub cycled-start : (np : ℕ) (ps : List ℕ) (on : List Bool) → Layable np ps on → 3 ≤ np → (c : ℕ) → T (at on c) → Cycled ps (start np ps on c)
+pub cycled-start : (np : ℕ) (ps : List ℕ) (on : List Bool) → Layable np ps on → Wide ps on → (c : ℕ) → T (at on c) → Cycled ps (start np ps on c)
 unfolding start cycle around
 cycled-start np ps on G many c o =
     let q : List ℕ = path np ps (λ d. inPlay on d && not (eqb (d / 2) c)) (λ p. true) (enters ps (2 * c)) (leaves ps (2 * c)) in
@@ -189,12 +189,12 @@ cycled-start np ps on G many c o =
 
 -- ---- any number of paths
 
-module _ (np : ℕ) (ps : List ℕ) (on : List Bool) (G : Layable np ps on) (many : 3 ≤ np) (P : State → Type 0)
-    (begin : (s : State) → Kept ps s → Cycled ps s → P s) (step : (s z : State) → Kept ps s → Kept ps z → Parted ps s z → P s → P z) where
+module _ (np : ℕ) (ps : List ℕ) (on : List Bool) (G : Layable np ps on) (many : Wide ps on) (P : State → Type 0)
+    (begin : (s : State) → Kept ps on s → Cycled ps s → P s) (step : (s z : State) → Kept ps on s → Kept ps on z → Parted ps s z → P s → P z) where
   -- begun with any channel in play
   pub steps-keep : (c : ℕ) → T (at on c) → (n : ℕ) → P (rounds np ps on n (start np ps on c) .state)
   steps-keep c o n =
-      rounds-keep np ps on (λ s. Kept ps s × P s)
+      rounds-keep np ps on (λ s. Kept ps on s × P s)
       (λ s h e i p. let z = kept-lay np ps on G s (h .0) e i p in (z, step s (lay np ps on s e) (h .0) z (parted-lay np ps on G s (h .0) e i p) (h .1)))
       n (start np ps on c) (kept-start np ps on G many c o, begin (start np ps on c) (kept-start np ps on G many c o) (cycled-start np ps on G many c o)) .1
 

@@ -5,7 +5,7 @@
 --   laidAt ps t p       the laid darts of port p, rising
 --   woven t u l         l, with the turn under u put behind each dart where t has not laid that turn
 --   Follows t u w       after dart w comes under u what comes under t, or else a dart that t has not laid, and after that what comes under t
--- T-all, keep-every, cut-at, length-same, once-at, map-one: lists of numbers by their counts. laidAt-..: which darts are the laid ones of a port.
+-- keep-every, cut-at, once-at, map-one: lists of numbers by their counts. laidAt-..: which darts are the laid ones of a port.
 -- sweep-.., circle-..: sweeps are joined and cut, and a circle is one from whichever dart it is listed. sweep-ring, sweep-onward, sweep-reach: the definitions ring and onward along a sweep. sweep-inj: in a circle no two darts have the same turn.
 -- ring-from, ring-length, one-ring: a ring at a port is found from each of its darts, has as many darts as the port has laid ones, and passes the test of refusal 14. ring-two: a ring of two darts.
 -- sweep-woven, keep-woven, count-woven-..: new darts are put into a ring, and without them it is as it was.
@@ -14,7 +14,7 @@ use mathlib.Core.Path.{_≡_, refl, sym, ap, _∙_, subst}
 use mathlib.Core.Logic.{_≢_, _⊎_, inl, inr, ⊎-elim}
 use mathlib.Core.Bool.{Bool, true, false, cond}
 use mathlib.Core.List.{List, [], _∷_, _++_, map}
-use Prim.Native.Nat.{ℕ, _≤_, _<_, _+_, zero, suc}
+use Prim.Native.Nat.{ℕ, _≤_, _<_, _+_, suc}
 use native.Mathlib.Nat.{not-suc-le-zero, eq-zero-or-pos}
 use native.Mathlib.Omega.{arith}
 use lib.Dec.{T, eqb, eqb-refl, eqb→eq}
@@ -24,18 +24,13 @@ use Rattle.rules.specs.Terms.{leaves, enters, reverse, laid, dartsAt, onward, r
 use Rattle.rules.specs.Refusals.{oneRing}
 use Rattle.rules.specs.Laying.{back}
 use Rattle.laws.proofs.Tests.{T-is, eq→eqb, T-and}
-use Rattle.laws.proofs.Counts.{flag, flag-T, T-flag, flag-le, is, is-self, is-not, is-cases, is-apart, count, count-head, count-append, count-map, zero-of, sum, length-sum, Distinct}
-use Rattle.laws.proofs.Lists.{T-any, keep-le, keep-T, T-keep, count-from, from-lt, from-once}
+use Rattle.laws.proofs.Counts.{length-same, flag, flag-T, T-flag, flag-le, is, is-self, is-not, is-cases, is-apart, count, count-head, count-append, count-map, zero-of, Distinct}
+use Rattle.laws.proofs.Lists.{T-all, T-any, keep-le, keep-T, T-keep, count-from, from-lt, from-once}
 use Rattle.laws.proofs.Runs.{is-reverse, count-back}
 use Rattle.laws.proofs.Links.{laid-lt}
 use Rattle.laws.proofs.Trails.{leaves-reverse, enters-reverse}
 
 -- ---- lists
-
-pub T-all : (f : ℕ → Bool) (l : List ℕ) → ((z : ℕ) → 1 ≤ count z l → T (f z)) → T (all f l)
-unfolding all count
-T-all f [] h = tt
-T-all f (x ∷ l) h = T-and (f x) (all f l) (h x (omega (arith, is-self x))) (T-all f l (λ z k. h z (omega arith)))
 
 pub keep-every : (f : ℕ → Bool) (l : List ℕ) → ((z : ℕ) → 1 ≤ count z l → T (f z)) → keep f l ≡ l
 unfolding keep count
@@ -49,15 +44,6 @@ cut-at z [] h = absurd (not-suc-le-zero h)
 cut-at z (x ∷ l) h =
     ⊎-elim (λ e. ([], (l, ap (λ (w : ℕ). w ∷ l) (sym e))))
     (λ n. let r = cut-at z l (omega arith) in (x ∷ r .0, (r .1 .0, ap (λ (m : List ℕ). x ∷ m) (r .1 .1)))) (is-cases z x)
-
--- lists of the same numbers have the same length
-sum-same : (l m : List ℕ) → ((z : ℕ) → count z l ≡ count z m) → (k : ℕ) → sum k l ≡ sum k m
-unfolding sum
-sum-same l m e zero = refl
-sum-same l m e (suc k) = omega (arith, e k, sum-same l m e k)
-
-pub length-same : (n : ℕ) (l m : List ℕ) → ((z : ℕ) → count z l ≡ count z m) → ((z : ℕ) → 1 ≤ count z l → z < n) → length l ≡ length m
-length-same n l m e h = length-sum n l h ∙ sum-same l m e n ∙ sym (length-sum n m (λ z k. h z (omega (arith, e z))))
 
 -- of numbers that f tells apart in l, one stands there
 count-two : (f : ℕ → ℕ) (l : List ℕ) (y z : ℕ) → y ≢ z → f y ≡ f z → count y l + count z l ≤ count (f z) (map f l)
@@ -211,7 +197,7 @@ module _ (ps t : List ℕ) (p : ℕ) (R : RingAt ps t p) where
 
     -- as many as the port has laid darts
     pub ring-length : length (R .darts) ≡ length (laidAt ps t p)
-    ring-length = length-same (length t) (R .darts) (laidAt ps t p) ring-same (λ z k. laid-lt t z (ring-in z k .1))
+    ring-length = length-same (length t) (R .darts) (laidAt ps t p) (λ z k. laid-lt t z (ring-in z (omega (arith, ring-same z)) .1)) ring-same
 
     -- from each of its darts on
     pub ring-from : (d : ℕ) → leaves ps d ≡ p → T (laid t d)
@@ -221,7 +207,7 @@ module _ (ps t : List ℕ) (p : ℕ) (R : RingAt ps t p) where
           r .0,
           r .1,
           r .2,
-          length-same (length t) (d ∷ r .0) (laidAt ps t p) (λ z. r .2 z ∙ ring-same z) (λ z k. laid-lt t z (ring-in z (omega (arith, k, r .2 z)) .1)),
+          length-same (length t) (d ∷ r .0) (laidAt ps t p) (λ z k. laid-lt t z (ring-in z (omega (arith, ring-same z)) .1)) (λ z. r .2 z ∙ ring-same z),
         )
 
     -- the test of refusal 14, of the laid darts

@@ -23,6 +23,7 @@ use Rattle.laws.proofs.Links.{laid-lt}
 use Rattle.laws.proofs.Trails.{enters-reverse, trail-back}
 use Rattle.laws.proofs.Corners.{Closed, closed-of, closed-turn, closed-listed, closed-split, land-meets}
 use Rattle.laws.proofs.Sound.{countAll, all-at, count-at, Sound}
+use Rattle.laws.proofs.Reaches.{Wide}
 use Rattle.laws.proofs.Rounds.{Layable}
 use Rattle.laws.proofs.FirstCycle.{kept-laying}
 use Rattle.laws.proofs.Steps.{Cycled, Parted, all-parted, steps-laying}
@@ -100,7 +101,7 @@ module _ (ps : List ℕ) (s : State) (K : Sound (s .turns) (s .lands)) where
 
 -- ---- any number of paths
 
-module _ (np : ℕ) (ps : List ℕ) (on : List Bool) (G : Layable np ps on) (many : 3 ≤ np) (c : ℕ) (o : T (at on c)) where
+module _ (np : ℕ) (ps : List ℕ) (on : List Bool) (G : Layable np ps on) (many : Wide ps on) (c : ℕ) (o : T (at on c)) where
   pub closed-laying : (n : ℕ) → All (Closed ps) (laying np ps on n .state .lands)
   closed-laying = steps-laying np ps on G many (λ s. All (Closed ps) (s .lands)) (λ s K C. closed-cycled ps s C) (λ s z K L D C. closed-parted ps s z (K .sound) D C) c o
 

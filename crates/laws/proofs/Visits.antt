@@ -20,6 +20,7 @@ use Rattle.laws.proofs.Lists.{All}
 use Rattle.laws.proofs.Runs.{listed-keeps}
 use Rattle.laws.proofs.Trails.{leaves-reverse, Trail, inner, trail-leaves, trail-enters}
 use Rattle.laws.proofs.Sound.{all-at, Sound}
+use Rattle.laws.proofs.Reaches.{Wide}
 use Rattle.laws.proofs.Rounds.{Layable}
 use Rattle.laws.proofs.Steps.{Cycled, Parted, parted-old, all-parted, steps-laying}
 
@@ -121,7 +122,7 @@ module _ (ps : List ℕ) (s z : State) (K : Sound (s .turns) (s .lands)) (D : Pa
 
 -- ---- any number of paths
 
-module _ (np : ℕ) (ps : List ℕ) (on : List Bool) (G : Layable np ps on) (many : 3 ≤ np) (c : ℕ) (o : T (at on c)) where
+module _ (np : ℕ) (ps : List ℕ) (on : List Bool) (G : Layable np ps on) (many : Wide ps on) (c : ℕ) (o : T (at on c)) where
   pub once-laying : (n : ℕ) → All (Once ps) (laying np ps on n .state .lands)
   once-laying = steps-laying np ps on G many (λ s. All (Once ps) (s .lands)) (λ s K C. once-cycled ps s C) (λ s z K L D C. once-parted ps s z (K .sound) D C) c o
 

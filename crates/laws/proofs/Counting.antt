@@ -323,7 +323,7 @@ module _ (np : ℕ) (ps : List ℕ) (on : List Bool) where
       (λ n s e w. subst (Flat (T (allLaid np ps on (s .turns)))) e (judge-flat s))
       (λ n s k e w. absurd (stuck-flat w)) (λ s c e w. absurd (partial-flat w)) (λ n s c e o h. h)
 
-  lay-paths : (s : State) (c : Choice) → length (lay np ps on s c .paths) ≡ length (s .paths) + 1
+  pub lay-paths : (s : State) (c : Choice) → length (lay np ps on s c .paths) ≡ length (s .paths) + 1
   unfolding lay
   lay-paths s c = length-append (s .paths) _
 

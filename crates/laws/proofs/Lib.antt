@@ -30,3 +30,8 @@ pub mod Sweeps
 pub mod NewTurns
 pub mod Rings
 pub mod Changes
+pub mod FragmentMeaning
+pub mod Verdicts
+pub mod PathMeaning
+pub mod RefusalMeaning
+pub mod RefusalTable

@@ -35,3 +35,5 @@ pub mod Verdicts
 pub mod PathMeaning
 pub mod RefusalMeaning
 pub mod RefusalTable
+pub mod Demands
+pub mod Four

@@ -1,0 +1,5 @@
+pub mod Rotations
+pub mod Stretching
+pub mod Dividing
+pub mod Cycling
+pub mod Laws

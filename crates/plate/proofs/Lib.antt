@@ -1,0 +1,6 @@
+pub mod Laws
+pub mod Search
+pub mod Stages
+pub mod Ends
+pub mod Copies
+pub mod Cutting

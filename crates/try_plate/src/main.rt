@@ -1,7 +1,6 @@
 // Plate files to try: reads them from standard input, one after another, each behind its length in two bytes, and prints what reading each gives and how many bytes its pairs have.
 ghost use Prim.Native.Nat.{_<_, _≤_};
 ghost use lib.ListN.{length};
-
 use plate::Reading;
 
 // A byte as a number.

@@ -1,0 +1,12 @@
+pub mod Rising
+pub mod Turning
+pub mod Spreading
+pub mod Marking
+pub mod Touching
+pub mod Collecting
+pub mod Contacting
+pub mod Choosing
+pub mod Weighing
+pub mod Judging
+pub mod Owning
+pub mod Telling

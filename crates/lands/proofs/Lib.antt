@@ -1,0 +1,5 @@
+pub mod Walks
+pub mod Gathering
+pub mod Walking
+pub mod Listing
+pub mod Filling

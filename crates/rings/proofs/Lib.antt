@@ -1,0 +1,5 @@
+pub mod Orbits
+pub mod Rings
+pub mod Following
+pub mod Turns
+pub mod Tables

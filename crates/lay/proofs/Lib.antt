@@ -1,0 +1,5 @@
+pub mod Filling
+pub mod Answering
+pub mod Laying
+pub mod Rooming
+pub mod Calling

@@ -1,0 +1,214 @@
+// The laying call: a plate file is read, and laid into the slices that the caller lends.
+ghost use mathlib.Core.Path.{_≡_};
+ghost use mathlib.Core.Bool.{Bool, true, false, _||_};
+ghost use mathlib.Core.List.{List, _++_, map};
+ghost use Prim.Native.Nat.{ℕ, _+_, _-_, _*_, _/_, _<_, _≤_};
+ghost use lib.Dec.{ltb};
+ghost use lib.ListN.{length, take, drop, replicate};
+ghost use Rattle.rules.specs.Lists.{concat};
+ghost use Rattle.rules.specs.Terms.{missing};
+ghost use Rattle.rules.specs.Files.{limits1};
+ghost use Rattle.rules.specs.Refusals.{given};
+ghost use Rattle.rules.specs.Laying.{laying, wholePlate, layPlate, told, turnsLeft, landsLeft, lengthsLeft};
+ghost use Rattle.reach.specs.Floods.{Tables};
+ghost use Rattle.land.specs.Walks.{lands as walked, Walkable};
+ghost use Rattle.rounds.specs.Stories.{saidBy};
+ghost use Rattle.rounds.specs.Rooms.{Desk};
+ghost use Rattle.lay.specs.Answers.{laidAnswer, refusalIn};
+ghost use Rattle.lay.specs.Sheets.{Fit, Sheet, storySize, noStory};
+
+use plate::Plate;
+use plate::Reading;
+use plate::Refusal;
+use rounds::End;
+use rounds::Word;
+
+// What laying answers: the word with the number of paths and, where it is STUCK, the name; or a refusal.
+pub enum Laid {
+    Flat(usize),
+    Stuck(usize, usize),
+    Partial(usize),
+    Refused(Refusal),
+}
+
+// The most numbers in the record of what was laid.
+const STORY: usize = 4 * Plate::MOST_CHANNELS + Plate::MOST_PORTS + 4;
+
+// The record of what was laid, with nothing in it.
+fn no_story() -> [u16; STORY]
+    ensures { λ r. ⌜ (r ≡ noStory) × (storySize ≡ length r) ⌝ }
+{
+    [0u16; STORY]
+}
+
+// The number x as an index.
+fn wide(x: u32) -> usize
+    ensures { λ r. ⌜ r ≡ x ⌝ }
+{
+    x as usize
+}
+
+// The answer for the end of a laying.
+fn laid_of(end: End) -> Laid
+    ensures { λ r. ⌜ laidAnswer r ≡ given (saidBy end) ⌝ }
+{
+    let word = end.word;
+    match word {
+        Word::Flat => Laid::Flat(end.paths),
+        Word::Stuck(k) => Laid::Stuck(end.paths, k),
+        Word::Partial => Laid::Partial(end.paths),
+    }
+}
+
+// The refusal of a reading that has one, and 0 at 0 of one that has none.
+fn refusal_in(got: Reading) -> Refusal
+    ensures { λ r. ⌜ r ≡ refusalIn got ⌝ }
+{
+    match got {
+        Reading::Plate(_) => Refusal {
+            number: 0,
+            place: 0,
+        },
+        Reading::Refused(x) => x,
+    }
+}
+
+// Some of the three lent slices is shorter than the call needs.
+fn is_short(darts: usize, most: usize, turns: usize, lands: usize, lengths: usize) -> bool
+    ensures { λ r. ⌜ r ≡ (ltb turns darts || (ltb lands darts || (ltb lengths most || false))) ⌝ }
+{
+    if turns < darts {
+        return true;
+    }
+    if lands < darts {
+        return true;
+    }
+    lengths < most
+}
+
+// Copies the first n of `from` to the start of `to`.
+fn copy(from: &[u16], n: usize, to: &mut [u16])
+    requires { ⌜ (n ≤ length (now from)) × (n ≤ length (now to)) ⌝ }
+    ensures { λ _. ⌜ now (to .exit) ≡ take n (now (from .entry)) ++ drop n (now (to .entry)) ⌝ }
+{
+    let mut i = 0;
+    while i < n {
+        to[i] = from[i];
+        i += 1;
+    }
+}
+
+// Writes the lands one after another and then the mark of a missing turn, and their lengths and then 0.
+fn write_out(turns: &[u16], firsts: &[u16], lens: &[u16], count: usize, lands: &mut [u16], lengths: &mut [u16])
+    requires walkable { ⌜ Walkable (now turns) (now firsts) (now lens) count ⌝ }
+    requires lands { ⌜ length (concat (walked (now turns) (now firsts) (now lens) count)) ≤ length (now lands) ⌝ }
+    requires lengths { ⌜ count ≤ length (now lengths) ⌝ }
+    ensures lands { λ _. ⌜ now (lands .exit) ≡ concat (walked (now (turns .entry)) (now (firsts .entry)) (now (lens .entry)) count) ++ replicate (length (now (lands .entry)) - length (concat (walked (now (turns .entry)) (now (firsts .entry)) (now (lens .entry)) count))) missing ⌝ }
+    ensures lengths { λ _. ⌜ now (lengths .exit) ≡ take count (now (lens .entry)) ++ replicate (length (now (lengths .entry)) - count) 0 ⌝ }
+{
+    let at = land::write_lands(turns, firsts, lens, count, lands);
+    let darts = lands.len();
+    land::fill(lands, at, darts, Plate::MISSING);
+    copy(lens, count, lengths);
+    let most = lengths.len();
+    land::fill(lengths, count, most, 0);
+}
+
+// Lays a plate in the slices lent, and writes its lands and their lengths.
+fn lay_sheet(ends: &[u16], play: &[bool], n: usize, first: &mut [u16], more: &mut [u16], turns: &mut [u16], firsts: &mut [u16], lens: &mut [u16], laid: &mut [bool], marks: &mut [bool], queue: &mut [u16], touched: &mut [bool], contacts: &mut [u16], inside: &mut [bool], own: &mut [bool], story: &mut [u16], lands: &mut [u16], lengths: &mut [u16]) -> Laid
+    requires fit { ⌜ Fit (length (now first)) (now ends) (now play) n (now turns) (now lands) (now lengths) ⌝ }
+    requires more { ⌜ length (now more) ≡ length (now ends) ⌝ }
+    requires starts { ⌜ length (now play) + 2 ≤ length (now firsts) ⌝ }
+    requires sizes { ⌜ length (now play) + 2 ≤ length (now lens) ⌝ }
+    requires desk { ⌜ Desk (length (now first)) (length (now play)) (now laid) (now marks) (now queue) (now touched) (now contacts) (now inside) (now own) ⌝ }
+    requires room { ⌜ 4 * length (now play) + length (now first) + 4 ≤ length (now story) ⌝ }
+    ensures { λ r. ⌜ Sheet (length (now (first .entry))) (now (ends .entry)) (now (play .entry)) n (length (now (lengths .entry))) (now (turns .exit)) (now (lands .exit)) (now (lengths .exit)) r ⌝ }
+{
+    let end = rounds::lay_out(ends, play, n, first, more, turns, firsts, lens, laid, marks, queue, touched, contacts, inside, own, story);
+    let count = end.lands;
+    write_out(turns, firsts, lens, count, lands, lengths);
+    laid_of(end)
+}
+
+// The same, with room made for the marks.
+fn lay_marks(ends: &[u16], play: &[bool], n: usize, first: &mut [u16], more: &mut [u16], turns: &mut [u16], firsts: &mut [u16], lens: &mut [u16], queue: &mut [u16], contacts: &mut [u16], story: &mut [u16], lands: &mut [u16], lengths: &mut [u16]) -> Laid
+    requires fit { ⌜ Fit (length (now first)) (now ends) (now play) n (now turns) (now lands) (now lengths) ⌝ }
+    requires more { ⌜ length (now more) ≡ length (now ends) ⌝ }
+    requires starts { ⌜ length (now play) + 2 ≤ length (now firsts) ⌝ }
+    requires sizes { ⌜ length (now play) + 2 ≤ length (now lens) ⌝ }
+    requires queues { ⌜ (length (now queue) ≡ length (now first)) × (length (now contacts) ≡ length (now first)) ⌝ }
+    requires room { ⌜ 4 * length (now play) + length (now first) + 4 ≤ length (now story) ⌝ }
+    ensures { λ r. ⌜ Sheet (length (now (first .entry))) (now (ends .entry)) (now (play .entry)) n (length (now (lengths .entry))) (now (turns .exit)) (now (lands .exit)) (now (lengths .exit)) r ⌝ }
+{
+    let v = first.len();
+    let e = play.len();
+    let mut laid = Plate::no_marks();
+    let mut marks = Plate::no_marks();
+    let mut touched = Plate::no_marks();
+    let mut inside = Plate::no_marks();
+    let mut own = Plate::all_channels();
+    lay_sheet(ends, play, n, first, more, turns, firsts, lens, &mut laid[..v], &mut marks[..v], queue, &mut touched[..v], contacts, &mut inside[..v], &mut own[..e], story, lands, lengths)
+}
+
+// The same for a plate of v ports, with room made for the neighbours and for lists of ports.
+fn lay_queues(ends: &[u16], play: &[bool], v: usize, n: usize, turns: &mut [u16], firsts: &mut [u16], lens: &mut [u16], story: &mut [u16], lands: &mut [u16], lengths: &mut [u16]) -> Laid
+    requires fit { ⌜ Fit v (now ends) (now play) n (now turns) (now lands) (now lengths) ⌝ }
+    requires starts { ⌜ length (now play) + 2 ≤ length (now firsts) ⌝ }
+    requires sizes { ⌜ length (now play) + 2 ≤ length (now lens) ⌝ }
+    requires room { ⌜ 4 * length (now play) + v + 4 ≤ length (now story) ⌝ }
+    ensures { λ r. ⌜ Sheet v (now (ends .entry)) (now (play .entry)) n (length (now (lengths .entry))) (now (turns .exit)) (now (lands .exit)) (now (lengths .exit)) r ⌝ }
+{
+    let darts = ends.len();
+    let mut first = Plate::no_ports();
+    let mut more = Plate::no_ends();
+    let mut queue = Plate::no_ports();
+    let mut contacts = Plate::no_ports();
+    lay_marks(ends, play, n, &mut first[..v], &mut more[..darts], turns, firsts, lens, &mut queue[..v], &mut contacts[..v], story, lands, lengths)
+}
+
+// The same, with room made for the lands and the story.
+fn lay_lands(ends: &[u16], play: &[bool], v: usize, n: usize, turns: &mut [u16], lands: &mut [u16], lengths: &mut [u16]) -> Laid
+    requires { ⌜ Fit v (now ends) (now play) n (now turns) (now lands) (now lengths) ⌝ }
+    ensures { λ r. ⌜ Sheet v (now (ends .entry)) (now (play .entry)) n (length (now (lengths .entry))) (now (turns .exit)) (now (lands .exit)) (now (lengths .exit)) r ⌝ }
+{
+    let mut firsts = Plate::no_ends();
+    let mut lens = Plate::no_ends();
+    let mut story = no_story();
+    lay_queues(ends, play, v, n, turns, &mut firsts, &mut lens, &mut story, lands, lengths)
+}
+
+// Lays a plate of v ports with these pairs, every channel in play.
+fn lay_pairs(pairs: &[u8], v: usize, n: usize, turns: &mut [u16], lands: &mut [u16], lengths: &mut [u16]) -> Laid
+    requires { ⌜ Fit v (now pairs) (replicate (length (now pairs) / 2) true) n (now turns) (now lands) (now lengths) ⌝ }
+    ensures { λ r. ⌜ Sheet v (now (pairs .entry)) (replicate (length (now (pairs .entry)) / 2) true) n (length (now (lengths .entry))) (now (turns .exit)) (now (lands .exit)) (now (lengths .exit)) r ⌝ }
+{
+    let darts = pairs.len();
+    let e = darts / 2;
+    let mut ends = Plate::no_ends();
+    plate::copy_ends(pairs, &mut ends);
+    let play = Plate::all_channels();
+    lay_lands(&ends[..darts], &play[..e], v, n, turns, lands, lengths)
+}
+
+// Lays a plate file with n paths at most: the turns, the lands in number order and their lengths go into the slices lent. A refusal alters no element.
+pub fn lay(file: &[u8], n: u32, turns: &mut [u16], lands: &mut [u16], lengths: &mut [u16]) -> Laid
+    ensures answer { λ r. ⌜ laidAnswer r ≡ told (layPlate (now (file .entry)) n (length (now (turns .entry))) (length (now (lands .entry))) (length (now (lengths .entry)))) ⌝ }
+    ensures turns { λ _. ⌜ now (turns .exit) ≡ turnsLeft (layPlate (now (file .entry)) n (length (now (turns .entry))) (length (now (lands .entry))) (length (now (lengths .entry)))) (now (turns .entry)) ⌝ }
+    ensures lands { λ _. ⌜ now (lands .exit) ≡ landsLeft (layPlate (now (file .entry)) n (length (now (turns .entry))) (length (now (lands .entry))) (length (now (lengths .entry)))) (now (lands .entry)) ⌝ }
+    ensures lengths { λ _. ⌜ now (lengths .exit) ≡ lengthsLeft (layPlate (now (file .entry)) n (length (now (turns .entry))) (length (now (lands .entry))) (length (now (lengths .entry)))) (now (lengths .entry)) ⌝ }
+{
+    let got = plate::read(file);
+    let Reading::Plate(p) = got else {
+        return Laid::Refused(refusal_in(got));
+    };
+    let darts = 2 * p.channels;
+    let most = p.channels + 2 - p.ports;
+    if is_short(darts, most, turns.len(), lands.len(), lengths.len()) {
+        return Laid::Refused(Refusal {
+            number: 15,
+            place: 0,
+        });
+    }
+    let pairs = plate::pairs(file);
+    lay_pairs(pairs, p.ports, wide(n), &mut turns[..darts], &mut lands[..darts], &mut lengths[..most])
+}

@@ -1,0 +1,275 @@
+-- The rounds (rules, "Laying"), one after another: what each verdict makes of them.
+--   Ended v ends play s m w      w is the word of the rounds from the state s on, m paths at most, and they end there
+-- judged: the verdict depends on turns and lands alone. ready-of: a verdict of the code to go on has a choice. going: a path laid is one of the rounds. ended, held-up: where a verdict ends them, and where no path is left.
+-- Assumes nothing.
+use mathlib.Core.Path.{_≡_, refl, sym, ap, _∙_, subst}
+use mathlib.Core.Logic.{_≢_, _⊎_, ⊎-elim}
+use mathlib.Core.Bool.{Bool}
+use mathlib.Core.List.{List, [], _∷_}
+use Prim.Native.Nat.{ℕ, zero, suc, _+_, _-_, _*_, _<_, _≤_}
+use native.Mathlib.Omega.{arith}
+use lib.ListN.{length, getD, take}
+use Rattle.rules.specs.Laying.{State, Choice, Verdict, flat, stuck, ready, Word as RuleWord, FLAT, STUCK, PARTIAL, Outcome, choices, lay, judge, rounds, firstChannel, start, firstCycle, laying}
+use Rattle.laws.proofs.Choices.{Open, Sensible, Ready as Go, choices-sensible, judge-ready}
+use Rattle.laws.proofs.Rounds.{Layable, Kept}
+use Rattle.reach.specs.Neighbours.{firstDarts, moreDarts}
+use Rattle.reach.specs.Floods.{Tables}
+use Rattle.land.specs.Walks.{lands, Walkable}
+use Rattle.split.proofs.Laws.{Holds, holds-lands, holds-long, holds-walkable}
+use Rattle.fragment.specs.declared.Verdict.{Verdict as Said}
+use Rattle.fragment.specs.declared.Verdict.the-variants.{Flat as SaidFlat, Stuck as SaidStuck, Ready as SaidReady}
+use Rattle.fragment.specs.declared.Choice.{Choice as Named}
+use Rattle.fragment.specs.Fragments.{Wired, Lent}
+use Rattle.fragment.proofs.Verdict.{the-type}
+use types.Run.{OneOf}
+use denote.Enum.Declared.{tagOf}
+use Rattle.fragment.specs.Rounds.{stateOf, verdictOf, laidBy}
+use Rattle.rounds.specs.declared.Word.{Word}
+use Rattle.rounds.specs.declared.Word.the-variants.{Flat, Stuck, Partial}
+use Rattle.rounds.specs.declared.End.{End}
+use Rattle.rounds.specs.Stories.{storyOf, wordOf, wordIn, nameIn, saidBy, saidOf}
+use Rattle.rounds.specs.Rooms.{Desk, Standing, Chosen, Under, Round, Plan, Left}
+use Rattle.rounds.proofs.Telling.{lands-few, place-most, count-paths}
+use Rattle.rounds.proofs.Crossing.{wired-of, lent-of}
+
+-- ---- the verdict
+
+judge-same : (v : ℕ) (ends : List ℕ) (play : List Bool) (s : State) → judge v ends play (stateOf (s .turns) (s .lands)) ≡ judge v ends play s
+unfolding judge choices
+judge-same v ends play s = refl
+
+-- the verdict on what is held is the one on the state
+pub judged : (v : ℕ) (ends : List ℕ) (play : List Bool) (s : State) (t fs ns : List ℕ) (n : ℕ) → Kept ends play s → Holds s t fs ns n
+    → judge v ends play (stateOf t (lands t fs ns n)) ≡ judge v ends play s
+judged v ends play s t fs ns n K H =
+    ap (λ (u : List ℕ). judge v ends play (stateOf u (lands t fs ns n))) (H .turns)
+    ∙ ap (λ (ls : List (List ℕ)). judge v ends play (stateOf (s .turns) ls)) (holds-lands ends play s K t fs ns n H)
+    ∙ judge-same v ends play s
+
+pub ready-of : (j : Verdict) (c : Named) → SaidReady c ≡ verdictOf j → (e : Choice) × (j ≡ ready e) × (c .name ≡ e .fragment .name) × (c .land ≡ getD (e .fits) 0 0)
+ready-of flat c h = let z : _≡_ {A = ℕ} 0 1 = cc in absurd (omega arith)
+ready-of (stuck k) c h = let z : _≡_ {A = ℕ} 0 1 = cc in absurd (omega arith)
+ready-of (ready e) c h = let q : c ≡ record { name = e .fragment .name; land = getD (e .fits) 0 0 } = cc in (e, refl, ap (λ (d : Named). d .name) q, ap (λ (d : Named). d .land) q)
+
+-- ---- the rounds
+
+rounds-ready : (v : ℕ) (ends : List ℕ) (play : List Bool) (m : ℕ) (s : State) (e : Choice) → judge v ends play s ≡ ready e → rounds v ends play (suc m) s ≡ rounds v ends play m (lay v ends play s e)
+unfolding rounds
+rounds-ready v ends play m s e h = ap (λ (j : Verdict). elim j as (λ w. Outcome) [ flat ↦ record { word = FLAT; name = 0; state = s } | stuck k ↦ record { word = STUCK; name = k; state = s } | ready c ↦ rounds v ends play m (lay v ends play s c) ]) h
+
+rounds-none : (v : ℕ) (ends : List ℕ) (play : List Bool) (s : State) (e : Choice) → judge v ends play s ≡ ready e → rounds v ends play 0 s ≡ record { word = PARTIAL; name = 0; state = s }
+unfolding rounds
+rounds-none v ends play s e h = ap (λ (j : Verdict). elim j as (λ w. Outcome) [ flat ↦ record { word = FLAT; name = 0; state = s } | stuck k ↦ record { word = STUCK; name = k; state = s } | ready c ↦ record { word = PARTIAL; name = 0; state = s } ]) h
+
+rounds-flat : (v : ℕ) (ends : List ℕ) (play : List Bool) (m : ℕ) (s : State) → judge v ends play s ≡ flat → rounds v ends play m s ≡ record { word = FLAT; name = 0; state = s }
+unfolding rounds
+rounds-flat v ends play zero s h = ap (λ (j : Verdict). elim j as (λ w. Outcome) [ flat ↦ record { word = FLAT; name = 0; state = s } | stuck k ↦ record { word = STUCK; name = k; state = s } | ready c ↦ record { word = PARTIAL; name = 0; state = s } ]) h
+rounds-flat v ends play (suc m) s h = ap (λ (j : Verdict). elim j as (λ w. Outcome) [ flat ↦ record { word = FLAT; name = 0; state = s } | stuck k ↦ record { word = STUCK; name = k; state = s } | ready c ↦ rounds v ends play m (lay v ends play s c) ]) h
+
+rounds-stuck : (v : ℕ) (ends : List ℕ) (play : List Bool) (m : ℕ) (s : State) (k : ℕ) → judge v ends play s ≡ stuck k → rounds v ends play m s ≡ record { word = STUCK; name = k; state = s }
+unfolding rounds
+rounds-stuck v ends play zero s k h = ap (λ (j : Verdict). elim j as (λ w. Outcome) [ flat ↦ record { word = FLAT; name = 0; state = s } | stuck i ↦ record { word = STUCK; name = i; state = s } | ready c ↦ record { word = PARTIAL; name = 0; state = s } ]) h
+rounds-stuck v ends play (suc m) s k h = ap (λ (j : Verdict). elim j as (λ w. Outcome) [ flat ↦ record { word = FLAT; name = 0; state = s } | stuck i ↦ record { word = STUCK; name = i; state = s } | ready c ↦ rounds v ends play m (lay v ends play s c) ]) h
+
+-- a verdict of the code that is not to go on
+abbrev pub Over : Said → Type 0
+Over SaidFlat = Unit {0}
+Over (SaidStuck k) = Unit {0}
+Over (SaidReady c) = ⊥
+
+module _ (v : ℕ) (ends : List ℕ) (play : List Bool) (n : ℕ) (L : Plan v ends play) (t fs ns st : List ℕ) (count place : ℕ) (U : Under v ends play n t fs ns st count place) where
+  abbrev s : State
+  s = U .state
+
+  abbrev left : ℕ
+  left = n - length (s .paths)
+
+  pub verdict : (said : Said) → said ≡ verdictOf (judge v ends play (stateOf t (lands t fs ns count))) → said ≡ verdictOf (judge v ends play s)
+  verdict said h = h ∙ ap verdictOf (judged v ends play s t fs ns count (U .stands .kept) (U .stands .holds))
+
+  -- what is left, where the rounds end with the word w at s
+  left-so : (w : Word) (r : End) → rounds v ends play left s ≡ record { word = wordIn w; name = nameIn w; state = s } → r ≡ record { word = w; paths = count - 2; lands = count; story = place } → Left v ends play n t fs ns st r
+  left-so w r e q =
+      let o : laying v ends play n ≡ record { word = wordIn w; name = nameIn w; state = s } = sym (U .goes) ∙ e in
+      let p : count - 2 ≡ length (s .paths) = omega (arith, count-paths v ends play (L .layable) s t fs ns st count place (U .stands)) in
+      subst (Left v ends play n t fs ns st) (sym q)
+      (record {
+        said = ap (λ (m : ℕ). record { word = wordIn w; paths = m; name = nameIn w }) p ∙ ap saidOf (sym o);
+        holds = subst (λ (z : Outcome). Holds (z .state) t fs ns count) (sym o) (U .stands .holds);
+        told = U .stands .told ∙ ap (λ (z : Outcome). storyOf (firstCycle v ends play) (z .state .paths)) (sym o);
+        most = place-most v ends play (L .layable) s t fs ns st count place (U .stands);
+      })
+
+  pub ended : (said : Said) → said ≡ verdictOf (judge v ends play (stateOf t (lands t fs ns count))) → Over said → (r : End) → r ≡ record { word = wordOf said; paths = count - 2; lands = count; story = place } → Left v ends play n t fs ns st r
+  ended said h over r q = go (judge v ends play s) refl said (verdict said h) over q
+    where
+      go : (j : Verdict) → judge v ends play s ≡ j → (d : Said) → d ≡ verdictOf j → Over d → r ≡ record { word = wordOf d; paths = count - 2; lands = count; story = place } → Left v ends play n t fs ns st r
+      go flat e d f o z = left-so Flat r (rounds-flat v ends play left s e) (z ∙ ap (λ (m : Said). record { word = wordOf m; paths = count - 2; lands = count; story = place }) f)
+      go (stuck k) e d f o z = left-so (Stuck k) r (rounds-stuck v ends play left s k e) (z ∙ ap (λ (m : Said). record { word = wordOf m; paths = count - 2; lands = count; story = place }) f)
+      go (ready a) e d f o z = absurd (subst Over f o)
+
+  pub ended-by : (said : Said) → said ≡ verdictOf (judge v ends play (stateOf t (lands t fs ns count))) → Over said → (w : Word) → w ≡ wordOf said → Left v ends play n t fs ns st (record { word = w; paths = count - 2; lands = count; story = place })
+  ended-by said h over w e = ended said h over (record { word = w; paths = count - 2; lands = count; story = place }) (ap (λ (x : Word). record { word = x; paths = count - 2; lands = count; story = place }) e)
+
+  module _ (c : Named) (h : SaidReady c ≡ verdictOf (judge v ends play (stateOf t (lands t fs ns count)))) where
+    abbrev pub found : (e : Choice) × (judge v ends play s ≡ ready e) × (c .name ≡ e .fragment .name) × (c .land ≡ getD (e .fits) 0 0)
+    found = ready-of (judge v ends play s) c (verdict (SaidReady c) h)
+
+    pub held-up : count - 2 ≡ n → (r : End) → r ≡ record { word = Partial; paths = count - 2; lands = count; story = place } → Left v ends play n t fs ns st r
+    held-up m r q =
+        let z : left ≡ 0 = omega (arith, count-paths v ends play (L .layable) s t fs ns st count place (U .stands)) in
+        left-so Partial r (ap (λ (k : ℕ). rounds v ends play k s) z ∙ rounds-none v ends play s (found .0) (found .1)) q
+
+    sensible : Sensible v ends play s (found .0) × Open (found .0)
+    sensible = subst (Go (λ e. Sensible v ends play s e × Open e)) (found .1) (judge-ready v ends play s (Sensible v ends play s) (choices-sensible v ends play s))
+
+    pub chosen : (lp : List Bool) → lp ≡ laidBy v ends t → Chosen v ends play s (found .0) t fs ns st count place lp (c .name) (c .land)
+    chosen lp e = record {
+      stands = U .stands;
+      sensible = sensible .0;
+      opens = sensible .1;
+      ports = e;
+      names = found .2;
+      lands = found .3;
+    }
+
+    pub going : count - 2 ≢ n → (t′ fs′ ns′ st′ : List ℕ) (place′ : ℕ) → Standing v ends play (lay v ends play s (found .0)) t′ fs′ ns′ st′ (count + 1) place′ → Under v ends play n t′ fs′ ns′ st′ (count + 1) place′
+    going ne t′ fs′ ns′ st′ place′ S =
+        let p : count ≡ length (s .paths) + 2 = count-paths v ends play (L .layable) s t fs ns st count place (U .stands) in
+        let p′ : count + 1 ≡ length (lay v ends play s (found .0) .paths) + 2 = count-paths v ends play (L .layable) (lay v ends play s (found .0)) t′ fs′ ns′ st′ (count + 1) place′ S in
+        let more : length (s .paths) < n = omega (arith, U .most) in
+        let e : left ≡ suc (n - length (lay v ends play s (found .0) .paths)) = omega arith in
+        record {
+          state = lay v ends play s (found .0);
+          stands = S;
+          most = omega arith;
+          goes = sym (rounds-ready v ends play (n - length (lay v ends play s (found .0) .paths)) s (found .0) (found .1)) ∙ ap (λ (k : ℕ). rounds v ends play k s) (sym e) ∙ U .goes;
+        }
+
+-- ---- one round of the code
+
+two-key : (_≡_ {A = ℕ} 2 0) ⊎ (_≡_ {A = ℕ} 2 1) → ⊥
+two-key h = ⊎-elim (λ e. absurd (omega (arith, e))) (λ e. absurd (omega (arith, e))) h
+
+-- a verdict that is one of the first two ends the rounds
+pub over-of : (d : Said) → OneOf (0 ∷ 1 ∷ []) (tagOf the-type d) → Over d
+over-of SaidFlat h = tt
+over-of (SaidStuck k) h = tt
+over-of (SaidReady c) h = two-key h
+
+pub count-few : (v : ℕ) (ends : List ℕ) (play : List Bool) (n : ℕ) → Plan v ends play → (t fs ns st : List ℕ) (count place : ℕ) → Under v ends play n t fs ns st count place → (2 ≤ count) × (count ≤ length play + 2)
+count-few v ends play n L t fs ns st count place U =
+    (omega (arith, count-paths v ends play (L .layable) (U .state) t fs ns st count place (U .stands)),
+    omega (arith, U .stands .holds .count, lands-few v ends play (L .layable) (U .state) (U .stands .kept)))
+
+module _ (v : ℕ) (ends : List ℕ) (play : List Bool) (n : ℕ) (L : Plan v ends play) (first more : List ℕ) (B : Tables v ends first more) (t₀ fs₀ ns₀ st₀ t fs ns : List ℕ)
+    (laid marks : List Bool) (queue : List ℕ) (touched : List Bool) (contacts : List ℕ) (inside own : List Bool) (st : List ℕ) (count place : ℕ)
+    (R : Round v ends play n t₀ fs₀ ns₀ st₀ t fs ns laid marks queue touched contacts inside own st count place) where
+  abbrev D : Desk v (length play) laid marks queue touched contacts inside own
+  D = R .desk
+
+  pub ask-judge : Wired (length laid) ends play first more × (Walkable t fs ns count × ((length t ≡ length ends) × Lent (length laid) marks queue touched contacts))
+  ask-judge = (
+    subst (λ (m : ℕ). Wired m ends play first more) (sym (D .ofLaid)) (wired-of v ends play first more L B),
+    (
+      holds-walkable ends play (R .under .state) (R .under .stands .kept) t fs ns count (R .under .stands .holds) v (L .layable),
+      (
+        holds-long ends play (R .under .state) (R .under .stands .kept) t fs ns count (R .under .stands .holds),
+        subst (λ (m : ℕ). Lent m marks queue touched contacts) (sym (D .ofLaid)) (lent-of v (length play) laid marks queue touched contacts inside own (L .small) D),
+      ),
+    ),
+  )
+
+  -- what the verdict says, at the number of ports
+  pub said-so : (said : Said) → said ≡ verdictOf (judge (length laid) ends play (stateOf t (lands t fs ns count))) → said ≡ verdictOf (judge v ends play (stateOf t (lands t fs ns count)))
+  said-so said h = h ∙ ap (λ (m : ℕ). verdictOf (judge m ends play (stateOf t (lands t fs ns count)))) (D .ofLaid)
+
+  module _ (laid′ marks′ : List Bool) (queue′ : List ℕ) (touched′ : List Bool) (contacts′ : List ℕ)
+      (el : length laid′ ≡ length laid) (em : length marks′ ≡ length marks) (eq : length queue′ ≡ length queue) (et : length touched′ ≡ length touched) (ec : length contacts′ ≡ length contacts)
+      (lp : laid′ ≡ laidBy (length laid) ends t) (c : Named) (h : SaidReady c ≡ verdictOf (judge (length laid) ends play (stateOf t (lands t fs ns count)))) where
+    e : length laid′ ≡ v
+    e = el ∙ D .ofLaid
+
+    desk′ : Desk v (length play) laid′ marks′ queue′ touched′ contacts′ inside own
+    desk′ = record { ofLaid = e; ofMarks = em ∙ D .ofMarks; ofQueue = eq ∙ D .ofQueue; ofTouched = et ∙ D .ofTouched; ofContacts = ec ∙ D .ofContacts; ofInside = D .ofInside; ofOwn = D .ofOwn }
+
+    h′ : SaidReady c ≡ verdictOf (judge v ends play (stateOf t (lands t fs ns count)))
+    h′ = said-so (SaidReady c) h
+
+    C : Chosen v ends play (R .under .state) (found v ends play n L t fs ns st count place (R .under) c h′ .0) t fs ns st count place laid′ (c .name) (c .land)
+    C = chosen v ends play n L t fs ns st count place (R .under) c h′ laid′ (lp ∙ ap (λ (m : ℕ). laidBy m ends t) (D .ofLaid))
+
+    pub ask-lay : Plan (length laid′) ends play × (Tables (length laid′) ends first more × (Desk (length laid′) (length play) laid′ marks′ queue′ touched′ contacts′ inside own × ((s : State) × ((a : Choice) × Chosen (length laid′) ends play s a t fs ns st count place laid′ (c .name) (c .land)))))
+    ask-lay = (
+      subst (λ (m : ℕ). Plan m ends play) (sym e) L,
+      (
+        subst (λ (m : ℕ). Tables m ends first more) (sym e) B,
+        (
+          subst (λ (m : ℕ). Desk m (length play) laid′ marks′ queue′ touched′ contacts′ inside own) (sym e) desk′,
+          (R .under .state, (found v ends play n L t fs ns st count place (R .under) c h′ .0, subst (λ (m : ℕ). Chosen m ends play (R .under .state) (found v ends play n L t fs ns st count place (R .under) c h′ .0) t fs ns st count place laid′ (c .name) (c .land)) (sym e) C)),
+        ),
+      ),
+    )
+
+    pub next-round : count - 2 ≢ n → (t′ fs′ ns′ : List ℕ) (marks″ : List Bool) (queue″ : List ℕ) (touched″ : List Bool) (contacts″ : List ℕ) (inside″ own″ : List Bool) (st′ : List ℕ) (place′ : ℕ)
+        → ((s : State) (a : Choice) → Chosen (length laid′) ends play s a t fs ns st count place laid′ (c .name) (c .land) → Standing (length laid′) ends play (lay (length laid′) ends play s a) t′ fs′ ns′ st′ (count + 1) place′)
+        → length t′ ≡ length t → length fs′ ≡ length fs → length ns′ ≡ length ns → length marks″ ≡ length marks′ → length queue″ ≡ length queue′ → length touched″ ≡ length touched′ → length contacts″ ≡ length contacts′
+        → length inside″ ≡ length inside → length own″ ≡ length own → length st′ ≡ length st
+        → Round v ends play n t₀ fs₀ ns₀ st₀ t′ fs′ ns′ laid′ marks″ queue″ touched″ contacts″ inside″ own″ st′ (count + 1) place′
+    next-round ne t′ fs′ ns′ marks″ queue″ touched″ contacts″ inside″ own″ st′ place′ F a1 a2 a3 a4 a5 a6 a7 a8 a9 a10 =
+        let S = subst (λ (m : ℕ). (s : State) (a : Choice) → Chosen m ends play s a t fs ns st count place laid′ (c .name) (c .land) → Standing m ends play (lay m ends play s a) t′ fs′ ns′ st′ (count + 1) place′) e F (R .under .state) (found v ends play n L t fs ns st count place (R .under) c h′ .0) C in
+        record {
+          under = going v ends play n L t fs ns st count place (R .under) c h′ ne t′ fs′ ns′ st′ place′ S;
+          desk = record { ofLaid = e; ofMarks = a4 ∙ desk′ .ofMarks; ofQueue = a5 ∙ desk′ .ofQueue; ofTouched = a6 ∙ desk′ .ofTouched; ofContacts = a7 ∙ desk′ .ofContacts; ofInside = a8 ∙ D .ofInside; ofOwn = a9 ∙ D .ofOwn };
+          ofTurns = a1 ∙ R .ofTurns;
+          ofFirsts = a2 ∙ R .ofFirsts;
+          ofLens = a3 ∙ R .ofLens;
+          ofStory = a10 ∙ R .ofStory;
+        }
+
+-- ---- the start
+
+laying-is : (v : ℕ) (ends : List ℕ) (play : List Bool) (n : ℕ) → rounds v ends play n (start v ends play (firstChannel v ends play)) ≡ laying v ends play n
+unfolding laying
+laying-is v ends play n = refl
+
+start-paths : (v : ℕ) (ends : List ℕ) (play : List Bool) (c : ℕ) → length (start v ends play c .paths) ≡ 0
+unfolding start
+start-paths v ends play c = refl
+
+pub setting-out : (v : ℕ) (ends : List ℕ) (play : List Bool) (n : ℕ) (t fs ns st : List ℕ) (place : ℕ) → Standing v ends play (start v ends play (firstChannel v ends play)) t fs ns st 2 place → Under v ends play n t fs ns st 2 place
+setting-out v ends play n t fs ns st place S =
+    let z = start-paths v ends play (firstChannel v ends play) in
+    let e : n - length (start v ends play (firstChannel v ends play) .paths) ≡ n = omega arith in
+    record {
+      state = start v ends play (firstChannel v ends play);
+      stands = S;
+      most = omega arith;
+      goes = ap (λ (k : ℕ). rounds v ends play k (start v ends play (firstChannel v ends play))) e ∙ laying-is v ends play n;
+    }
+
+-- what laying the first cycle asks, and the rounds after it, once the neighbours are found
+module _ (v : ℕ) (ends : List ℕ) (play : List Bool) (n : ℕ) (L : Plan v ends play) (first more : List ℕ) (e : length first ≡ v) (ef : first ≡ firstDarts v ends) (em : more ≡ moreDarts ends)
+    (laid marks : List Bool) (queue : List ℕ) (touched : List Bool) (contacts : List ℕ) (inside own : List Bool) (D : Desk v (length play) laid marks queue touched contacts inside own) where
+  tables : Tables (length first) ends first more
+  tables = subst (λ (m : ℕ). Tables m ends first more) (sym e) (record { firsts = ef; mores = em })
+
+  pub ask-first : (t fs ns st : ℕ) → t ≡ length ends → length play + 2 ≤ fs → length play + 2 ≤ ns → 4 * length play + v + 4 ≤ st
+      → Plan (length first) ends play × (Tables (length first) ends first more × ((t ≡ length ends) × ((length play + 2 ≤ fs) × ((length play + 2 ≤ ns)
+      × (((length contacts ≡ length first) × (length inside ≡ length first) × (length own ≡ length play)) × (4 * length play + length first + 4 ≤ st))))))
+  ask-first t fs ns st a b c d =
+      (subst (λ (m : ℕ). Plan m ends play) (sym e) L, (tables, (a, (b, (c, ((D .ofContacts ∙ sym e, D .ofInside ∙ sym e, D .ofOwn), omega (arith, e)))))))
+
+  pub ask-rounds : (contacts′ : List ℕ) (inside′ own′ : List Bool) → length contacts′ ≡ length contacts → length inside′ ≡ length inside → length own′ ≡ length own → (t fs ns st : List ℕ) (place : ℕ)
+      → Standing (length first) ends play (start (length first) ends play (firstChannel (length first) ends play)) t fs ns st 2 place
+      → Plan (length first) ends play × (Tables (length first) ends first more × (Desk (length first) (length play) laid marks queue touched contacts′ inside′ own′ × Under (length first) ends play n t fs ns st 2 place))
+  ask-rounds contacts′ inside′ own′ a b c t fs ns st place S = (
+    subst (λ (m : ℕ). Plan m ends play) (sym e) L,
+    (
+      tables,
+      (
+        record { ofLaid = D .ofLaid ∙ sym e; ofMarks = D .ofMarks ∙ sym e; ofQueue = D .ofQueue ∙ sym e; ofTouched = D .ofTouched ∙ sym e; ofContacts = a ∙ D .ofContacts ∙ sym e; ofInside = b ∙ D .ofInside ∙ sym e; ofOwn = c ∙ D .ofOwn },
+        setting-out (length first) ends play n t fs ns st place S,
+      ),
+    ),
+  )

@@ -16,7 +16,6 @@ ghost use Rattle.rounds.specs.Stories.{saidBy};
 ghost use Rattle.rounds.specs.Rooms.{Desk};
 ghost use Rattle.lay.specs.Answers.{laidAnswer, refusalIn};
 ghost use Rattle.lay.specs.Sheets.{Fit, Sheet, storySize, noStory};
-
 use plate::Plate;
 use plate::Reading;
 use plate::Refusal;
@@ -99,7 +98,14 @@ fn copy(from: &[u16], n: usize, to: &mut [u16])
 }
 
 // Writes the lands one after another and then the mark of a missing turn, and their lengths and then 0.
-fn write_out(turns: &[u16], firsts: &[u16], lens: &[u16], count: usize, lands: &mut [u16], lengths: &mut [u16])
+fn write_out(
+    turns: &[u16],
+    firsts: &[u16],
+    lens: &[u16],
+    count: usize,
+    lands: &mut [u16],
+    lengths: &mut [u16],
+)
     requires walkable { ⌜ Walkable (now turns) (now firsts) (now lens) count ⌝ }
     requires lands { ⌜ length (concat (walked (now turns) (now firsts) (now lens) count)) ≤ length (now lands) ⌝ }
     requires lengths { ⌜ count ≤ length (now lengths) ⌝ }
@@ -115,7 +121,26 @@ fn write_out(turns: &[u16], firsts: &[u16], lens: &[u16], count: usize, lands: &
 }
 
 // Lays a plate in the slices lent, and writes its lands and their lengths.
-fn lay_sheet(ends: &[u16], play: &[bool], n: usize, first: &mut [u16], more: &mut [u16], turns: &mut [u16], firsts: &mut [u16], lens: &mut [u16], laid: &mut [bool], marks: &mut [bool], queue: &mut [u16], touched: &mut [bool], contacts: &mut [u16], inside: &mut [bool], own: &mut [bool], story: &mut [u16], lands: &mut [u16], lengths: &mut [u16]) -> Laid
+fn lay_sheet(
+    ends: &[u16],
+    play: &[bool],
+    n: usize,
+    first: &mut [u16],
+    more: &mut [u16],
+    turns: &mut [u16],
+    firsts: &mut [u16],
+    lens: &mut [u16],
+    laid: &mut [bool],
+    marks: &mut [bool],
+    queue: &mut [u16],
+    touched: &mut [bool],
+    contacts: &mut [u16],
+    inside: &mut [bool],
+    own: &mut [bool],
+    story: &mut [u16],
+    lands: &mut [u16],
+    lengths: &mut [u16],
+) -> Laid
     requires fit { ⌜ Fit (length (now first)) (now ends) (now play) n (now turns) (now lands) (now lengths) ⌝ }
     requires more { ⌜ length (now more) ≡ length (now ends) ⌝ }
     requires starts { ⌜ length (now play) + 2 ≤ length (now firsts) ⌝ }
@@ -124,14 +149,45 @@ fn lay_sheet(ends: &[u16], play: &[bool], n: usize, first: &mut [u16], more: &mu
     requires room { ⌜ 4 * length (now play) + length (now first) + 4 ≤ length (now story) ⌝ }
     ensures { λ r. ⌜ Sheet (length (now (first .entry))) (now (ends .entry)) (now (play .entry)) n (length (now (lengths .entry))) (now (turns .exit)) (now (lands .exit)) (now (lengths .exit)) r ⌝ }
 {
-    let end = rounds::lay_out(ends, play, n, first, more, turns, firsts, lens, laid, marks, queue, touched, contacts, inside, own, story);
+    let end = rounds::lay_out(
+        ends,
+        play,
+        n,
+        first,
+        more,
+        turns,
+        firsts,
+        lens,
+        laid,
+        marks,
+        queue,
+        touched,
+        contacts,
+        inside,
+        own,
+        story,
+    );
     let count = end.lands;
     write_out(turns, firsts, lens, count, lands, lengths);
     laid_of(end)
 }
 
 // The same, with room made for the marks.
-fn lay_marks(ends: &[u16], play: &[bool], n: usize, first: &mut [u16], more: &mut [u16], turns: &mut [u16], firsts: &mut [u16], lens: &mut [u16], queue: &mut [u16], contacts: &mut [u16], story: &mut [u16], lands: &mut [u16], lengths: &mut [u16]) -> Laid
+fn lay_marks(
+    ends: &[u16],
+    play: &[bool],
+    n: usize,
+    first: &mut [u16],
+    more: &mut [u16],
+    turns: &mut [u16],
+    firsts: &mut [u16],
+    lens: &mut [u16],
+    queue: &mut [u16],
+    contacts: &mut [u16],
+    story: &mut [u16],
+    lands: &mut [u16],
+    lengths: &mut [u16],
+) -> Laid
     requires fit { ⌜ Fit (length (now first)) (now ends) (now play) n (now turns) (now lands) (now lengths) ⌝ }
     requires more { ⌜ length (now more) ≡ length (now ends) ⌝ }
     requires starts { ⌜ length (now play) + 2 ≤ length (now firsts) ⌝ }
@@ -147,11 +203,41 @@ fn lay_marks(ends: &[u16], play: &[bool], n: usize, first: &mut [u16], more: &mu
     let mut touched = Plate::no_marks();
     let mut inside = Plate::no_marks();
     let mut own = Plate::all_channels();
-    lay_sheet(ends, play, n, first, more, turns, firsts, lens, &mut laid[..v], &mut marks[..v], queue, &mut touched[..v], contacts, &mut inside[..v], &mut own[..e], story, lands, lengths)
+    lay_sheet(
+        ends,
+        play,
+        n,
+        first,
+        more,
+        turns,
+        firsts,
+        lens,
+        &mut laid[..v],
+        &mut marks[..v],
+        queue,
+        &mut touched[..v],
+        contacts,
+        &mut inside[..v],
+        &mut own[..e],
+        story,
+        lands,
+        lengths,
+    )
 }
 
 // The same for a plate of v ports, with room made for the neighbours and for lists of ports.
-fn lay_queues(ends: &[u16], play: &[bool], v: usize, n: usize, turns: &mut [u16], firsts: &mut [u16], lens: &mut [u16], story: &mut [u16], lands: &mut [u16], lengths: &mut [u16]) -> Laid
+fn lay_queues(
+    ends: &[u16],
+    play: &[bool],
+    v: usize,
+    n: usize,
+    turns: &mut [u16],
+    firsts: &mut [u16],
+    lens: &mut [u16],
+    story: &mut [u16],
+    lands: &mut [u16],
+    lengths: &mut [u16],
+) -> Laid
     requires fit { ⌜ Fit v (now ends) (now play) n (now turns) (now lands) (now lengths) ⌝ }
     requires starts { ⌜ length (now play) + 2 ≤ length (now firsts) ⌝ }
     requires sizes { ⌜ length (now play) + 2 ≤ length (now lens) ⌝ }
@@ -163,22 +249,62 @@ fn lay_queues(ends: &[u16], play: &[bool], v: usize, n: usize, turns: &mut [u16]
     let mut more = Plate::no_ends();
     let mut queue = Plate::no_ports();
     let mut contacts = Plate::no_ports();
-    lay_marks(ends, play, n, &mut first[..v], &mut more[..darts], turns, firsts, lens, &mut queue[..v], &mut contacts[..v], story, lands, lengths)
+    lay_marks(
+        ends,
+        play,
+        n,
+        &mut first[..v],
+        &mut more[..darts],
+        turns,
+        firsts,
+        lens,
+        &mut queue[..v],
+        &mut contacts[..v],
+        story,
+        lands,
+        lengths,
+    )
 }
 
 // The same, with room made for the lands and the story.
-fn lay_lands(ends: &[u16], play: &[bool], v: usize, n: usize, turns: &mut [u16], lands: &mut [u16], lengths: &mut [u16]) -> Laid
+fn lay_lands(
+    ends: &[u16],
+    play: &[bool],
+    v: usize,
+    n: usize,
+    turns: &mut [u16],
+    lands: &mut [u16],
+    lengths: &mut [u16],
+) -> Laid
     requires { ⌜ Fit v (now ends) (now play) n (now turns) (now lands) (now lengths) ⌝ }
     ensures { λ r. ⌜ Sheet v (now (ends .entry)) (now (play .entry)) n (length (now (lengths .entry))) (now (turns .exit)) (now (lands .exit)) (now (lengths .exit)) r ⌝ }
 {
     let mut firsts = Plate::no_ends();
     let mut lens = Plate::no_ends();
     let mut story = no_story();
-    lay_queues(ends, play, v, n, turns, &mut firsts, &mut lens, &mut story, lands, lengths)
+    lay_queues(
+        ends,
+        play,
+        v,
+        n,
+        turns,
+        &mut firsts,
+        &mut lens,
+        &mut story,
+        lands,
+        lengths,
+    )
 }
 
 // Lays a plate of v ports with these pairs, every channel in play.
-fn lay_pairs(pairs: &[u8], v: usize, n: usize, turns: &mut [u16], lands: &mut [u16], lengths: &mut [u16]) -> Laid
+fn lay_pairs(
+    pairs: &[u8],
+    v: usize,
+    n: usize,
+    turns: &mut [u16],
+    lands: &mut [u16],
+    lengths: &mut [u16],
+) -> Laid
     requires { ⌜ Fit v (now pairs) (replicate (length (now pairs) / 2) true) n (now turns) (now lands) (now lengths) ⌝ }
     ensures { λ r. ⌜ Sheet v (now (pairs .entry)) (replicate (length (now (pairs .entry)) / 2) true) n (length (now (lengths .entry))) (now (turns .exit)) (now (lands .exit)) (now (lengths .exit)) r ⌝ }
 {
@@ -210,5 +336,12 @@ pub fn lay(file: &[u8], n: u32, turns: &mut [u16], lands: &mut [u16], lengths: &
         });
     }
     let pairs = plate::pairs(file);
-    lay_pairs(pairs, p.ports, wide(n), &mut turns[..darts], &mut lands[..darts], &mut lengths[..most])
+    lay_pairs(
+        pairs,
+        p.ports,
+        wide(n),
+        &mut turns[..darts],
+        &mut lands[..darts],
+        &mut lengths[..most],
+    )
 }

@@ -158,9 +158,10 @@ over-of (SaidStuck k) h = tt
 over-of (SaidReady c) h = two-key h
 
 pub count-few : (v : ℕ) (ends : List ℕ) (play : List Bool) (n : ℕ) → Plan v ends play → (t fs ns st : List ℕ) (count place : ℕ) → Under v ends play n t fs ns st count place → (2 ≤ count) × (count ≤ length play + 2)
-count-few v ends play n L t fs ns st count place U =
-    (omega (arith, count-paths v ends play (L .layable) (U .state) t fs ns st count place (U .stands)),
-    omega (arith, U .stands .holds .count, lands-few v ends play (L .layable) (U .state) (U .stands .kept)))
+count-few v ends play n L t fs ns st count place U = (
+  omega (arith, count-paths v ends play (L .layable) (U .state) t fs ns st count place (U .stands)),
+  omega (arith, U .stands .holds .count, lands-few v ends play (L .layable) (U .state) (U .stands .kept)),
+)
 
 module _ (v : ℕ) (ends : List ℕ) (play : List Bool) (n : ℕ) (L : Plan v ends play) (first more : List ℕ) (B : Tables v ends first more) (t₀ fs₀ ns₀ st₀ t fs ns : List ℕ)
     (laid marks : List Bool) (queue : List ℕ) (touched : List Bool) (contacts : List ℕ) (inside own : List Bool) (st : List ℕ) (count place : ℕ)

@@ -10,7 +10,6 @@ ghost use Rattle.rules.specs.Laying.{State, Choice, start, lay, firstChannel};
 ghost use Rattle.reach.specs.Floods.{Tables};
 ghost use Rattle.rounds.specs.Stories.{wordOf};
 ghost use Rattle.rounds.specs.Rooms.{Desk, Passable, Crossed, Standing, Chosen, Under, Plan, Left};
-
 use fragment::Verdict;
 
 // What the end of a laying says: the word, and the name where it is STUCK.
@@ -115,7 +114,21 @@ fn enter(story: &mut [u16], at: usize, name: usize, land: usize, size: usize)
 }
 
 // The path that is laid for the fragment that channel k names, at the front of `out`.
-fn cross(ends: &[u16], first: &[u16], more: &[u16], play: &[bool], laid: &[bool], k: usize, marks: &mut [bool], queue: &mut [u16], touched: &mut [bool], contacts: &mut [u16], inside: &mut [bool], own: &mut [bool], out: &mut [u16]) -> Way
+fn cross(
+    ends: &[u16],
+    first: &[u16],
+    more: &[u16],
+    play: &[bool],
+    laid: &[bool],
+    k: usize,
+    marks: &mut [bool],
+    queue: &mut [u16],
+    touched: &mut [bool],
+    contacts: &mut [u16],
+    inside: &mut [bool],
+    own: &mut [bool],
+    out: &mut [u16],
+) -> Way
     requires plan { ⌜ Plan (length (now laid)) (now ends) (now play) ⌝ }
     requires tables { ⌜ Tables (length (now laid)) (now ends) (now first) (now more) ⌝ }
     requires desk { ⌜ Desk (length (now laid)) (length (now play)) (now laid) (now marks) (now queue) (now touched) (now contacts) (now inside) (now own) ⌝ }
@@ -123,7 +136,18 @@ fn cross(ends: &[u16], first: &[u16], more: &[u16], play: &[bool], laid: &[bool]
     requires passable { ⌜ Passable (length (now laid)) (now ends) (now play) (now laid) k ⌝ }
     ensures { λ r. ⌜ Crossed (length (now (laid .entry))) (now (ends .entry)) (now (play .entry)) (now (laid .entry)) k (now (out .entry)) (now (out .exit)) r ⌝ }
 {
-    let two = fragment::two_contacts(ends, first, more, play, laid, marks, queue, touched, contacts, k);
+    let two = fragment::two_contacts(
+        ends,
+        first,
+        more,
+        play,
+        laid,
+        marks,
+        queue,
+        touched,
+        contacts,
+        k,
+    );
     let x = two.x;
     let y = two.y;
     fragment::fragment_of(ends, first, more, play, laid, k, inside, own, marks, queue);
@@ -132,7 +156,27 @@ fn cross(ends: &[u16], first: &[u16], more: &[u16], play: &[bool], laid: &[bool]
 }
 
 // Lays one path, for the fragment of this name in this land, and adds its entry to the story. Answers the length of the story.
-fn lay_one(ends: &[u16], first: &[u16], more: &[u16], play: &[bool], turns: &mut [u16], firsts: &mut [u16], lens: &mut [u16], count: usize, name: usize, land: usize, laid: &[bool], marks: &mut [bool], queue: &mut [u16], touched: &mut [bool], contacts: &mut [u16], inside: &mut [bool], own: &mut [bool], story: &mut [u16], at: usize) -> usize
+fn lay_one(
+    ends: &[u16],
+    first: &[u16],
+    more: &[u16],
+    play: &[bool],
+    turns: &mut [u16],
+    firsts: &mut [u16],
+    lens: &mut [u16],
+    count: usize,
+    name: usize,
+    land: usize,
+    laid: &[bool],
+    marks: &mut [bool],
+    queue: &mut [u16],
+    touched: &mut [bool],
+    contacts: &mut [u16],
+    inside: &mut [bool],
+    own: &mut [bool],
+    story: &mut [u16],
+    at: usize,
+) -> usize
     requires plan { ⌜ Plan (length (now laid)) (now ends) (now play) ⌝ }
     requires tables { ⌜ Tables (length (now laid)) (now ends) (now first) (now more) ⌝ }
     requires desk { ⌜ Desk (length (now laid)) (length (now play)) (now laid) (now marks) (now queue) (now touched) (now contacts) (now inside) (now own) ⌝ }
@@ -140,16 +184,52 @@ fn lay_one(ends: &[u16], first: &[u16], more: &[u16], play: &[bool], turns: &mut
     ensures { λ r. ⌜ ((s : State) (c : Choice) → Chosen (length (now (laid .entry))) (now (ends .entry)) (now (play .entry)) s c (now (turns .entry)) (now (firsts .entry)) (now (lens .entry)) (now (story .entry)) count at (now (laid .entry)) name land → Standing (length (now (laid .entry))) (now (ends .entry)) (now (play .entry)) (lay (length (now (laid .entry))) (now (ends .entry)) (now (play .entry)) s c) (now (turns .exit)) (now (firsts .exit)) (now (lens .exit)) (now (story .exit)) (count + 1) r) ⌝ }
 {
     let from = at + 3;
-    let way = cross(ends, first, more, play, laid, name, marks, queue, touched, contacts, inside, own, &mut story[from..]);
+    let way = cross(
+        ends,
+        first,
+        more,
+        play,
+        laid,
+        name,
+        marks,
+        queue,
+        touched,
+        contacts,
+        inside,
+        own,
+        &mut story[from..],
+    );
     let size = way.size;
     let end = from + size;
-    split::divide(ends, turns, firsts, lens, count, land, narrow(way.x), narrow(way.y), &story[from..end]);
+    split::divide(
+        ends,
+        turns,
+        firsts,
+        lens,
+        count,
+        land,
+        narrow(way.x),
+        narrow(way.y),
+        &story[from..end],
+    );
     enter(story, at, name, land, size);
     end
 }
 
 // Lays the first cycle, and begins the story with it. Answers the length of the story.
-fn lay_first(ends: &[u16], first: &[u16], more: &[u16], play: &[bool], turns: &mut [u16], firsts: &mut [u16], lens: &mut [u16], far: &mut [u16], inside: &mut [bool], own: &mut [bool], story: &mut [u16]) -> usize
+fn lay_first(
+    ends: &[u16],
+    first: &[u16],
+    more: &[u16],
+    play: &[bool],
+    turns: &mut [u16],
+    firsts: &mut [u16],
+    lens: &mut [u16],
+    far: &mut [u16],
+    inside: &mut [bool],
+    own: &mut [bool],
+    story: &mut [u16],
+) -> usize
     requires plan { ⌜ Plan (length (now first)) (now ends) (now play) ⌝ }
     requires tables { ⌜ Tables (length (now first)) (now ends) (now first) (now more) ⌝ }
     requires turns { ⌜ length (now turns) ≡ length (now ends) ⌝ }
@@ -174,7 +254,25 @@ fn lay_first(ends: &[u16], first: &[u16], more: &[u16], play: &[bool], turns: &m
 }
 
 // Lays path after path, n at most, from the first cycle on.
-fn rounds(ends: &[u16], first: &[u16], more: &[u16], play: &[bool], n: usize, turns: &mut [u16], firsts: &mut [u16], lens: &mut [u16], laid: &mut [bool], marks: &mut [bool], queue: &mut [u16], touched: &mut [bool], contacts: &mut [u16], inside: &mut [bool], own: &mut [bool], story: &mut [u16], begun: usize) -> End
+fn rounds(
+    ends: &[u16],
+    first: &[u16],
+    more: &[u16],
+    play: &[bool],
+    n: usize,
+    turns: &mut [u16],
+    firsts: &mut [u16],
+    lens: &mut [u16],
+    laid: &mut [bool],
+    marks: &mut [bool],
+    queue: &mut [u16],
+    touched: &mut [bool],
+    contacts: &mut [u16],
+    inside: &mut [bool],
+    own: &mut [bool],
+    story: &mut [u16],
+    begun: usize,
+) -> End
     requires plan { ⌜ Plan (length (now first)) (now ends) (now play) ⌝ }
     requires tables { ⌜ Tables (length (now first)) (now ends) (now first) (now more) ⌝ }
     requires desk { ⌜ Desk (length (now first)) (length (now play)) (now laid) (now marks) (now queue) (now touched) (now contacts) (now inside) (now own) ⌝ }
@@ -184,7 +282,21 @@ fn rounds(ends: &[u16], first: &[u16], more: &[u16], play: &[bool], n: usize, tu
     let mut count = 2;
     let mut at = begun;
     loop {
-        let said = fragment::judge(ends, first, more, play, turns, firsts, lens, count, laid, marks, queue, touched, contacts);
+        let said = fragment::judge(
+            ends,
+            first,
+            more,
+            play,
+            turns,
+            firsts,
+            lens,
+            count,
+            laid,
+            marks,
+            queue,
+            touched,
+            contacts,
+        );
         let paths = count - 2;
         let Verdict::Ready(c) = said else {
             return End {
@@ -202,13 +314,50 @@ fn rounds(ends: &[u16], first: &[u16], more: &[u16], play: &[bool], n: usize, tu
                 story: at,
             };
         }
-        at = lay_one(ends, first, more, play, turns, firsts, lens, count, c.name, c.land, laid, marks, queue, touched, contacts, inside, own, story, at);
+        at = lay_one(
+            ends,
+            first,
+            more,
+            play,
+            turns,
+            firsts,
+            lens,
+            count,
+            c.name,
+            c.land,
+            laid,
+            marks,
+            queue,
+            touched,
+            contacts,
+            inside,
+            own,
+            story,
+            at,
+        );
         count += 1;
     }
 }
 
 // Lays a plate by the channels in play: the first cycle, then n paths at most.
-pub fn lay_out(ends: &[u16], play: &[bool], n: usize, first: &mut [u16], more: &mut [u16], turns: &mut [u16], firsts: &mut [u16], lens: &mut [u16], laid: &mut [bool], marks: &mut [bool], queue: &mut [u16], touched: &mut [bool], contacts: &mut [u16], inside: &mut [bool], own: &mut [bool], story: &mut [u16]) -> End
+pub fn lay_out(
+    ends: &[u16],
+    play: &[bool],
+    n: usize,
+    first: &mut [u16],
+    more: &mut [u16],
+    turns: &mut [u16],
+    firsts: &mut [u16],
+    lens: &mut [u16],
+    laid: &mut [bool],
+    marks: &mut [bool],
+    queue: &mut [u16],
+    touched: &mut [bool],
+    contacts: &mut [u16],
+    inside: &mut [bool],
+    own: &mut [bool],
+    story: &mut [u16],
+) -> End
     requires plan { ⌜ Plan (length (now first)) (now ends) (now play) ⌝ }
     requires more { ⌜ length (now more) ≡ length (now ends) ⌝ }
     requires turns { ⌜ length (now turns) ≡ length (now ends) ⌝ }
@@ -219,6 +368,36 @@ pub fn lay_out(ends: &[u16], play: &[bool], n: usize, first: &mut [u16], more: &
     ensures { λ r. ⌜ Left (length (now (first .entry))) (now (ends .entry)) (now (play .entry)) n (now (turns .exit)) (now (firsts .exit)) (now (lens .exit)) (now (story .exit)) r ⌝ }
 {
     reach::neighbours(ends, first, more);
-    let begun = lay_first(ends, first, more, play, turns, firsts, lens, contacts, inside, own, story);
-    rounds(ends, first, more, play, n, turns, firsts, lens, laid, marks, queue, touched, contacts, inside, own, story, begun)
+    let begun = lay_first(
+        ends,
+        first,
+        more,
+        play,
+        turns,
+        firsts,
+        lens,
+        contacts,
+        inside,
+        own,
+        story,
+    );
+    rounds(
+        ends,
+        first,
+        more,
+        play,
+        n,
+        turns,
+        firsts,
+        lens,
+        laid,
+        marks,
+        queue,
+        touched,
+        contacts,
+        inside,
+        own,
+        story,
+        begun,
+    )
 }

@@ -12,6 +12,7 @@ ghost use Rattle.reach.specs.Floods.{Sized, Tables};
 ghost use Rattle.land.specs.Walks.{lands, Walkable};
 ghost use Rattle.fragment.specs.Fragments.{Wired, over, seedPort, touch, touchAll, touchFrom, rising, Marked, Shut, Lent, Spread, Contacts};
 ghost use Rattle.fragment.specs.Rounds.{twoOf, weighed, preferred, laidBy, stateOf, verdictOf, Next, Weighs};
+use plate::Plate;
 
 // What the next round says: all channels in play are laid; the fragment of that name has no admissible land; or a path is to be laid.
 pub enum Verdict {
@@ -45,9 +46,6 @@ struct Held {
     land: usize,
 }
 
-// The mark of a missing turn.
-const MISSING: u16 = 65535;
-
 // The number x as an index.
 fn wide(x: u16) -> usize
     ensures { λ r. ⌜ (r ≡ x) × (r < 65536) ⌝ }
@@ -79,7 +77,7 @@ fn is_laid(turns: &[u16], d: usize) -> bool
     requires { ⌜ d < length (now turns) ⌝ }
     ensures { λ r. ⌜ r ≡ laid (now (turns .entry)) d ⌝ }
 {
-    turns[d] != MISSING
+    turns[d] != Plate::MISSING
 }
 
 // The laid ports: those that a laid dart leaves.

@@ -35,5 +35,6 @@ pub mod Verdicts
 pub mod PathMeaning
 pub mod RefusalMeaning
 pub mod RefusalTable
+pub mod Small
 pub mod Demands
 pub mod Four

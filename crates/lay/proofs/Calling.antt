@@ -24,13 +24,13 @@ use Rattle.plate.specs.declared.Plate.{Plate}
 use Rattle.plate.specs.declared.Refusal.{Refusal}
 use Rattle.plate.specs.declared.Reading.{Reading}
 use Rattle.plate.specs.declared.Reading.the-variants.{Refused as Unread}
-use Rattle.plate.specs.Answers.{readingOf}
+use Rattle.plate.specs.Answers.{readingOf, refusalIn}
 use Rattle.plate.proofs.Laws.{plateIn, Known, unread, pairs-ends}
 use Rattle.rounds.specs.Stories.{saidOf}
-use Rattle.rounds.specs.Rooms.{Plan}
+use Rattle.step.specs.Rooms.{Plan}
 use Rattle.lay.specs.declared.Laid.{Laid}
 use Rattle.lay.specs.declared.Laid.the-variants.{Refused}
-use Rattle.lay.specs.Answers.{laidAnswer, refusalIn}
+use Rattle.lay.specs.Answers.{laidAnswer}
 use Rattle.lay.specs.Sheets.{Fit, Sheet}
 
 abbrev pub callOf : List ℕ → ℕ → ℕ → ℕ → ℕ → Answer Laying

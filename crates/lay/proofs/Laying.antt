@@ -17,15 +17,15 @@ use Rattle.laws.proofs.FirstCycle.{kept-laying}
 use Rattle.laws.proofs.Counting.{length-concat}
 use Rattle.land.specs.Walks.{lands, Walkable}
 use Rattle.split.proofs.Laws.{holds-lands, holds-walkable}
+use Rattle.step.proofs.Telling.{lands-few}
 use Rattle.rounds.specs.declared.End.{End}
 use Rattle.rounds.specs.Stories.{saidBy, saidOf}
-use Rattle.rounds.specs.Rooms.{Plan, Left}
-use Rattle.rounds.proofs.Telling.{lands-few}
+use Rattle.rounds.specs.Rooms.{Left}
 use Rattle.lay.specs.declared.Laid.{Laid}
 use Rattle.lay.specs.Answers.{laidAnswer}
 use Rattle.lay.specs.Sheets.{Fit, Sheet}
 
-module _ (v : ℕ) (ends : List ℕ) (play : List Bool) (n : ℕ) (t₀ l₀ ns₀ : List ℕ) (F : Fit v ends play n t₀ l₀ ns₀) (t fs ns st : List ℕ) (r : End) (E : Left v ends play n t fs ns st r) where
+module _ (v : ℕ) (ends : List ℕ) (play : List Bool) (n : ℕ) (t₀ l₀ ns₀ : List ℕ) (F : Fit v ends play n t₀ l₀ ns₀) (fd md t fs ns st : List ℕ) (r : End) (E : Left v ends play n fd md t fs ns st r) where
   abbrev o : Outcome
   o = laying v ends play n
 

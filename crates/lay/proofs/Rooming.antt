@@ -10,7 +10,7 @@ use lib.ListN.{length, take, replicate, length-replicate}
 use Rattle.rules.specs.Files.{limits1}
 use Rattle.plate.specs.State.{mostDarts, allChannels, copied}
 use Rattle.plate.proofs.Laws.{copied-front}
-use Rattle.rounds.specs.Rooms.{Desk}
+use Rattle.step.specs.Rooms.{Desk}
 use Rattle.lay.specs.declared.Laid.{Laid}
 use Rattle.lay.specs.Sheets.{Fit, Sheet, storySize}
 use Rattle.lay.proofs.Filling.{part-size, part-of-marks}

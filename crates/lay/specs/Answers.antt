@@ -1,15 +1,11 @@
 -- What the code's answers stand for: document 01's word, number of paths and name, or its refusal.
 --   laidAnswer r          what the laying call answers: of each case the word, the number of paths and the name, 0 where it is not STUCK; or the refusal
 --   laidOf e              the answer for the end of a laying
---   refusalIn got         the refusal of a reading that has one, and 0 at 0 of one that has none
 --   wholeEnough ..        each of the three lent slices has the elements that the call needs
 -- Assumes nothing.
 use Prim.Native.Nat.{ℕ}
 use Rattle.rules.specs.Refusals.{Answer, given, refused}
 use Rattle.rules.specs.Laying.{Told, FLAT, STUCK, PARTIAL}
-use Rattle.plate.specs.declared.Refusal.{Refusal}
-use Rattle.plate.specs.declared.Reading.{Reading}
-use Rattle.plate.specs.declared.Reading.the-variants.{Plate as Read, Refused as Unread}
 use Rattle.rounds.specs.declared.Word.{Word}
 use Rattle.rounds.specs.declared.Word.the-variants.{Flat as WordFlat, Stuck as WordStuck, Partial as WordPartial}
 use Rattle.lay.specs.declared.Laid.{Laid}
@@ -25,7 +21,3 @@ abbrev pub laidOf : Word → ℕ → Laid
 laidOf WordFlat p = Flat p
 laidOf (WordStuck k) p = Stuck p k
 laidOf WordPartial p = Partial p
-
-abbrev pub refusalIn : Reading → Refusal
-refusalIn (Read p) = record { number = 0; place = 0 }
-refusalIn (Unread x) = x

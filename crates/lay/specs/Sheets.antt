@@ -14,7 +14,7 @@ use Rattle.rules.specs.Files.{limits1}
 use Rattle.rules.specs.Refusals.{given}
 use Rattle.rules.specs.Laying.{laying}
 use Rattle.rounds.specs.Stories.{saidOf}
-use Rattle.rounds.specs.Rooms.{Plan}
+use Rattle.step.specs.Rooms.{Plan}
 use Rattle.lay.specs.declared.Laid.{Laid}
 use Rattle.lay.specs.Answers.{laidAnswer}
 

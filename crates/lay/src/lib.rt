@@ -13,8 +13,8 @@ ghost use Rattle.rules.specs.Laying.{laying, wholePlate, layPlate, told, turnsL
 ghost use Rattle.reach.specs.Floods.{Tables};
 ghost use Rattle.land.specs.Walks.{lands as walked, Walkable};
 ghost use Rattle.rounds.specs.Stories.{saidBy};
-ghost use Rattle.rounds.specs.Rooms.{Desk};
-ghost use Rattle.lay.specs.Answers.{laidAnswer, refusalIn};
+ghost use Rattle.step.specs.Rooms.{Desk};
+ghost use Rattle.lay.specs.Answers.{laidAnswer};
 ghost use Rattle.lay.specs.Sheets.{Fit, Sheet, storySize, noStory};
 use plate::Plate;
 use plate::Reading;
@@ -56,19 +56,6 @@ fn laid_of(end: End) -> Laid
         Word::Flat => Laid::Flat(end.paths),
         Word::Stuck(k) => Laid::Stuck(end.paths, k),
         Word::Partial => Laid::Partial(end.paths),
-    }
-}
-
-// The refusal of a reading that has one, and 0 at 0 of one that has none.
-fn refusal_in(got: Reading) -> Refusal
-    ensures { λ r. ⌜ r ≡ refusalIn got ⌝ }
-{
-    match got {
-        Reading::Plate(_) => Refusal {
-            number: 0,
-            place: 0,
-        },
-        Reading::Refused(x) => x,
     }
 }
 
@@ -297,7 +284,7 @@ fn lay_lands(
 }
 
 // Lays a plate of v ports with these pairs, every channel in play.
-fn lay_pairs(
+pub fn lay_pairs(
     pairs: &[u8],
     v: usize,
     n: usize,
@@ -325,7 +312,7 @@ pub fn lay(file: &[u8], n: u32, turns: &mut [u16], lands: &mut [u16], lengths: &
 {
     let got = plate::read(file);
     let Reading::Plate(p) = got else {
-        return Laid::Refused(refusal_in(got));
+        return Laid::Refused(plate::refusal_in(got));
     };
     let darts = 2 * p.channels;
     let most = p.channels + 2 - p.ports;

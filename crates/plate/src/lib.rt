@@ -8,7 +8,7 @@ ghost use Rattle.rules.specs.Lists.{number, seek};
 ghost use Rattle.rules.specs.Terms.{leaves, enters};
 ghost use Rattle.rules.specs.Files.{plateFile, limits1, portsIn, channelsIn, endsIn, fileLength};
 ghost use Rattle.rules.specs.Refusals.{refused, outside, otherMark, markTests, countTests, strange, loop, samePair, metEarlier, pairTests, fileTests, passed, apart, cuts, pieceTests, readPlate, pairsOf};
-ghost use Rattle.plate.specs.Answers.{formatOf, testOf, readingOf};
+ghost use Rattle.plate.specs.Answers.{formatOf, testOf, readingOf, refusalIn};
 ghost use Rattle.plate.specs.State.{mostDarts, noEnds, noTurns, allChannels, noMarks, noPorts, copied, Lent, Room, Whole};
 
 // A plate that was read: its ports and its channels.
@@ -227,7 +227,7 @@ fn is_outside(low: usize, high: usize, n: usize) -> bool
 }
 
 // The length of a file of this kind with so many channels.
-fn file_length(kind: Kind, channels: usize) -> usize
+pub fn file_length(kind: Kind, channels: usize) -> usize
     requires { ⌜ channels < 65536 ⌝ }
     ensures { λ r. ⌜ r ≡ fileLength (formatOf kind) channels ⌝ }
 {
@@ -630,6 +630,19 @@ pub fn read(file: &[u8]) -> Reading
         return Reading::Refused(x);
     }
     Reading::Plate(counts(file))
+}
+
+// The refusal of a reading that has one, and 0 at 0 of one that has none.
+pub fn refusal_in(got: Reading) -> Refusal
+    ensures { λ r. ⌜ r ≡ refusalIn got ⌝ }
+{
+    match got {
+        Reading::Plate(_) => Refusal {
+            number: 0,
+            place: 0,
+        },
+        Reading::Refused(x) => x,
+    }
 }
 
 // The pairs, as a part of the caller's file; empty where the file is refused.

@@ -24,13 +24,15 @@ use Rattle.fragment.proofs.Verdict.{the-type}
 use types.Run.{OneOf}
 use denote.Enum.Declared.{tagOf}
 use Rattle.fragment.specs.Rounds.{stateOf, verdictOf, laidBy}
+use Rattle.step.specs.Stories.{storyOf}
+use Rattle.step.specs.Rooms.{Desk, Standing, Chosen, Plan}
+use Rattle.step.proofs.Telling.{lands-few, place-most, count-paths}
+use Rattle.step.proofs.Crossing.{wired-of, lent-of}
 use Rattle.rounds.specs.declared.Word.{Word}
 use Rattle.rounds.specs.declared.Word.the-variants.{Flat, Stuck, Partial}
 use Rattle.rounds.specs.declared.End.{End}
-use Rattle.rounds.specs.Stories.{storyOf, wordOf, wordIn, nameIn, saidBy, saidOf}
-use Rattle.rounds.specs.Rooms.{Desk, Standing, Chosen, Under, Round, Plan, Left}
-use Rattle.rounds.proofs.Telling.{lands-few, place-most, count-paths}
-use Rattle.rounds.proofs.Crossing.{wired-of, lent-of}
+use Rattle.rounds.specs.Stories.{wordOf, wordIn, nameIn, saidBy, saidOf}
+use Rattle.rounds.specs.Rooms.{Under, Round, Left}
 
 -- ---- the verdict
 
@@ -88,37 +90,38 @@ module _ (v : ℕ) (ends : List ℕ) (play : List Bool) (n : ℕ) (L : Plan v en
   verdict said h = h ∙ ap verdictOf (judged v ends play s t fs ns count (U .stands .kept) (U .stands .holds))
 
   -- what is left, where the rounds end with the word w at s
-  left-so : (w : Word) (r : End) → rounds v ends play left s ≡ record { word = wordIn w; name = nameIn w; state = s } → r ≡ record { word = w; paths = count - 2; lands = count; story = place } → Left v ends play n t fs ns st r
-  left-so w r e q =
+  left-so : (first more : List ℕ) → Tables v ends first more → (w : Word) (r : End) → rounds v ends play left s ≡ record { word = wordIn w; name = nameIn w; state = s } → r ≡ record { word = w; paths = count - 2; lands = count; story = place } → Left v ends play n first more t fs ns st r
+  left-so first more B w r e q =
       let o : laying v ends play n ≡ record { word = wordIn w; name = nameIn w; state = s } = sym (U .goes) ∙ e in
       let p : count - 2 ≡ length (s .paths) = omega (arith, count-paths v ends play (L .layable) s t fs ns st count place (U .stands)) in
-      subst (Left v ends play n t fs ns st) (sym q)
+      subst (Left v ends play n first more t fs ns st) (sym q)
       (record {
         said = ap (λ (m : ℕ). record { word = wordIn w; paths = m; name = nameIn w }) p ∙ ap saidOf (sym o);
         holds = subst (λ (z : Outcome). Holds (z .state) t fs ns count) (sym o) (U .stands .holds);
         told = U .stands .told ∙ ap (λ (z : Outcome). storyOf (firstCycle v ends play) (z .state .paths)) (sym o);
         most = place-most v ends play (L .layable) s t fs ns st count place (U .stands);
+        tables = B;
       })
 
-  pub ended : (said : Said) → said ≡ verdictOf (judge v ends play (stateOf t (lands t fs ns count))) → Over said → (r : End) → r ≡ record { word = wordOf said; paths = count - 2; lands = count; story = place } → Left v ends play n t fs ns st r
-  ended said h over r q = go (judge v ends play s) refl said (verdict said h) over q
+  pub ended : (first more : List ℕ) → Tables v ends first more → (said : Said) → said ≡ verdictOf (judge v ends play (stateOf t (lands t fs ns count))) → Over said → (r : End) → r ≡ record { word = wordOf said; paths = count - 2; lands = count; story = place } → Left v ends play n first more t fs ns st r
+  ended first more B said h over r q = go (judge v ends play s) refl said (verdict said h) over q
     where
-      go : (j : Verdict) → judge v ends play s ≡ j → (d : Said) → d ≡ verdictOf j → Over d → r ≡ record { word = wordOf d; paths = count - 2; lands = count; story = place } → Left v ends play n t fs ns st r
-      go flat e d f o z = left-so Flat r (rounds-flat v ends play left s e) (z ∙ ap (λ (m : Said). record { word = wordOf m; paths = count - 2; lands = count; story = place }) f)
-      go (stuck k) e d f o z = left-so (Stuck k) r (rounds-stuck v ends play left s k e) (z ∙ ap (λ (m : Said). record { word = wordOf m; paths = count - 2; lands = count; story = place }) f)
+      go : (j : Verdict) → judge v ends play s ≡ j → (d : Said) → d ≡ verdictOf j → Over d → r ≡ record { word = wordOf d; paths = count - 2; lands = count; story = place } → Left v ends play n first more t fs ns st r
+      go flat e d f o z = left-so first more B Flat r (rounds-flat v ends play left s e) (z ∙ ap (λ (m : Said). record { word = wordOf m; paths = count - 2; lands = count; story = place }) f)
+      go (stuck k) e d f o z = left-so first more B (Stuck k) r (rounds-stuck v ends play left s k e) (z ∙ ap (λ (m : Said). record { word = wordOf m; paths = count - 2; lands = count; story = place }) f)
       go (ready a) e d f o z = absurd (subst Over f o)
 
-  pub ended-by : (said : Said) → said ≡ verdictOf (judge v ends play (stateOf t (lands t fs ns count))) → Over said → (w : Word) → w ≡ wordOf said → Left v ends play n t fs ns st (record { word = w; paths = count - 2; lands = count; story = place })
-  ended-by said h over w e = ended said h over (record { word = w; paths = count - 2; lands = count; story = place }) (ap (λ (x : Word). record { word = x; paths = count - 2; lands = count; story = place }) e)
+  pub ended-by : (first more : List ℕ) → Tables v ends first more → (said : Said) → said ≡ verdictOf (judge v ends play (stateOf t (lands t fs ns count))) → Over said → (w : Word) → w ≡ wordOf said → Left v ends play n first more t fs ns st (record { word = w; paths = count - 2; lands = count; story = place })
+  ended-by first more B said h over w e = ended first more B said h over (record { word = w; paths = count - 2; lands = count; story = place }) (ap (λ (x : Word). record { word = x; paths = count - 2; lands = count; story = place }) e)
 
   module _ (c : Named) (h : SaidReady c ≡ verdictOf (judge v ends play (stateOf t (lands t fs ns count)))) where
     abbrev pub found : (e : Choice) × (judge v ends play s ≡ ready e) × (c .name ≡ e .fragment .name) × (c .land ≡ getD (e .fits) 0 0)
     found = ready-of (judge v ends play s) c (verdict (SaidReady c) h)
 
-    pub held-up : count - 2 ≡ n → (r : End) → r ≡ record { word = Partial; paths = count - 2; lands = count; story = place } → Left v ends play n t fs ns st r
-    held-up m r q =
+    pub held-up : (first more : List ℕ) → Tables v ends first more → count - 2 ≡ n → (r : End) → r ≡ record { word = Partial; paths = count - 2; lands = count; story = place } → Left v ends play n first more t fs ns st r
+    held-up first more B m r q =
         let z : left ≡ 0 = omega (arith, count-paths v ends play (L .layable) s t fs ns st count place (U .stands)) in
-        left-so Partial r (ap (λ (k : ℕ). rounds v ends play k s) z ∙ rounds-none v ends play s (found .0) (found .1)) q
+        left-so first more B Partial r (ap (λ (k : ℕ). rounds v ends play k s) z ∙ rounds-none v ends play s (found .0) (found .1)) q
 
     sensible : Sensible v ends play s (found .0) × Open (found .0)
     sensible = subst (Go (λ e. Sensible v ends play s e × Open e)) (found .1) (judge-ready v ends play s (Sensible v ends play s) (choices-sensible v ends play s))

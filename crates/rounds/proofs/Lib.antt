@@ -1,6 +1,1 @@
-pub mod Same
-pub mod Writing
-pub mod Crossing
-pub mod Telling
-pub mod Entering
 pub mod Going

@@ -1,89 +1,20 @@
--- The room that laying works in, and what its functions ask and leave: v ports, the ends of the darts, the channels in play.
---   Desk v e ..                     the working slices have a place for each of v ports, and `own` for each of e channels
---   contactsAt v ends play lp k     the contacts of the fragment that channel k names, lp being the laid ports
---   pathAt v ends play lp k         the path that is laid for it
---   Passable v ends play lp k       it has two contacts at least, and a path between the two smallest
---   Crossed v ends play lp k ..     that path stands at the front of a slice
---   Standing v ends play s ..       the slices hold the state s: its turns, its lands by first darts and lengths, and its story; and they have room for more
---   Chosen v ends play s c ..       so they do, and c is a choice for s with an admissible land, as the code tells it
---   Under v ends play n ..          they hold a state on the way of laying at most n paths
---   Round v ends play n ..          so they do, the working slices have their sizes, and no slice has another length than at first
---   Plan v ends play ..             a plate that can be laid by the channels in play, with its neighbours, and room for its lands and story
---   Left v ends play n ..           they hold what laying at most n paths leaves, and the answer says so
+-- What laying path after path keeps and leaves in the slices: v ports, the ends of the darts, the channels in play.
+--   Under v ends play n ..      they hold a state on the way of laying at most n paths
+--   Round v ends play n ..      so they do, the working slices have their sizes, and no slice has another length than at first
+--   Left v ends play n ..       they hold what laying at most n paths leaves, the answer says so, and the neighbours of the ports stand in the two tables
 -- Assumes nothing.
 use mathlib.Core.Path.{_≡_}
-use mathlib.Core.Bool.{Bool, true, _||_}
-use mathlib.Core.List.{List, _++_, map}
-use Prim.Native.Nat.{ℕ, _+_, _-_, _*_, _<_, _≤_}
-use lib.Dec.{T, eqb}
-use lib.ListN.{length, getD, take, drop}
-use Rattle.rules.specs.Lists.{at}
-use Rattle.rules.specs.Terms.{missing}
-use Rattle.rules.specs.Ways.{only, iter, larger, path}
-use Rattle.rules.specs.Laying.{State, Choice, first, within, fragmentAt, contactsOf, rounds, firstCycle, laying}
-use Rattle.laws.proofs.Euler.{lengthAll}
-use Rattle.laws.proofs.Reaches.{Wide}
-use Rattle.laws.proofs.Choices.{Open, Sensible}
-use Rattle.laws.proofs.Rounds.{Layable, Kept}
+use mathlib.Core.Bool.{Bool}
+use mathlib.Core.List.{List}
+use Prim.Native.Nat.{ℕ, _-_, _≤_}
+use lib.ListN.{length, take}
+use Rattle.rules.specs.Laying.{State, rounds, firstCycle, laying}
 use Rattle.reach.specs.Floods.{Tables}
 use Rattle.split.proofs.Laws.{Holds}
-use Rattle.fragment.specs.Rounds.{laidBy}
-use Rattle.rounds.specs.declared.Way.{Way}
+use Rattle.step.specs.Stories.{storyOf}
+use Rattle.step.specs.Rooms.{Desk, Standing}
 use Rattle.rounds.specs.declared.End.{End}
-use Rattle.rounds.specs.Stories.{storyOf, saidBy, saidOf}
-
-pub record Desk (v e : ℕ) (laid marks : List Bool) (queue : List ℕ) (touched : List Bool) (contacts : List ℕ) (inside own : List Bool) : Type 0 where
-  pub ofLaid : length laid ≡ v
-  pub ofMarks : length marks ≡ v
-  pub ofQueue : length queue ≡ v
-  pub ofTouched : length touched ≡ v
-  pub ofContacts : length contacts ≡ v
-  pub ofInside : length inside ≡ v
-  pub ofOwn : length own ≡ e
-
--- ---- the path of a fragment
-
-abbrev pub contactsAt : ℕ → List ℕ → List Bool → List Bool → ℕ → List ℕ
-contactsAt v ends play lp k = contactsOf v ends play lp (fragmentAt v ends play lp k)
-
-abbrev pub pathAt : ℕ → List ℕ → List Bool → List Bool → ℕ → List ℕ
-pathAt v ends play lp k =
-    path v ends (within v ends play (fragmentAt v ends play lp k)) (at (fragmentAt v ends play lp k .ports))
-    (getD (contactsAt v ends play lp k) 0 0) (getD (contactsAt v ends play lp k) 1 0)
-
-pub record Passable (v : ℕ) (ends : List ℕ) (play lp : List Bool) (k : ℕ) : Type 0 where
-  pub channel : at play k ≡ true
-  pub two : 2 ≤ length (contactsAt v ends play lp k)
-  pub x : getD (contactsAt v ends play lp k) 0 0 < v
-  pub y : getD (contactsAt v ends play lp k) 1 0 < v
-  pub reached : T (at (iter (larger ends (within v ends play (fragmentAt v ends play lp k)) (λ p. at (fragmentAt v ends play lp k .ports) p || eqb p (getD (contactsAt v ends play lp k) 0 0))) v
-      (only v (getD (contactsAt v ends play lp k) 1 0))) (getD (contactsAt v ends play lp k) 0 0))
-
-pub record Crossed (v : ℕ) (ends : List ℕ) (play lp : List Bool) (k : ℕ) (out out′ : List ℕ) (r : Way) : Type 0 where
-  pub x : r .x ≡ getD (contactsAt v ends play lp k) 0 0
-  pub y : r .y ≡ getD (contactsAt v ends play lp k) 1 0
-  pub size : r .size ≡ length (pathAt v ends play lp k)
-  pub held : out′ ≡ pathAt v ends play lp k ++ drop (length (pathAt v ends play lp k)) out
-
--- ---- the state that is held
-
-pub record Standing (v : ℕ) (ends : List ℕ) (play : List Bool) (s : State) (turns firsts lens story : List ℕ) (count place : ℕ) : Type 0 where
-  pub kept : Kept ends play s
-  pub holds : Holds s turns firsts lens count
-  pub starts : length play + 2 ≤ length firsts
-  pub sizes : length play + 2 ≤ length lens
-  pub room : 4 * length play + v + 4 ≤ length story
-  pub told : take place story ≡ storyOf (firstCycle v ends play) (s .paths)
-  -- one for the cycle, three for each path, and one for each laid channel
-  pub long : 2 * place ≡ 2 + 6 * length (s .paths) + lengthAll (s .lands)
-
-pub record Chosen (v : ℕ) (ends : List ℕ) (play : List Bool) (s : State) (c : Choice) (turns firsts lens story : List ℕ) (count place : ℕ) (lp : List Bool) (name land : ℕ) : Type 0 where
-  pub stands : Standing v ends play s turns firsts lens story count place
-  pub sensible : Sensible v ends play s c
-  pub opens : Open c
-  pub ports : lp ≡ laidBy v ends turns
-  pub names : name ≡ c .fragment .name
-  pub lands : land ≡ getD (c .fits) 0 0
+use Rattle.rounds.specs.Stories.{saidBy, saidOf}
 
 pub record Under (v : ℕ) (ends : List ℕ) (play : List Bool) (n : ℕ) (turns firsts lens story : List ℕ) (count place : ℕ) : Type 0 where
   pub state : State
@@ -100,16 +31,9 @@ pub record Round (v : ℕ) (ends : List ℕ) (play : List Bool) (n : ℕ) (turns
   pub ofLens : length lens ≡ length lens₀
   pub ofStory : length story ≡ length story₀
 
--- ---- a whole laying
-
-pub record Plan (v : ℕ) (ends : List ℕ) (play : List Bool) : Type 0 where
-  pub layable : Layable v ends play
-  pub wide : Wide ends play
-  pub some : (c : ℕ) × T (at play c)
-  pub small : v < missing
-
-pub record Left (v : ℕ) (ends : List ℕ) (play : List Bool) (n : ℕ) (turns firsts lens story : List ℕ) (r : End) : Type 0 where
+pub record Left (v : ℕ) (ends : List ℕ) (play : List Bool) (n : ℕ) (first more turns firsts lens story : List ℕ) (r : End) : Type 0 where
   pub said : saidBy r ≡ saidOf (laying v ends play n)
   pub holds : Holds (laying v ends play n .state) turns firsts lens (r .lands)
   pub told : take (r .story) story ≡ storyOf (firstCycle v ends play) (laying v ends play n .state .paths)
   pub most : r .story ≤ length story
+  pub tables : Tables v ends first more

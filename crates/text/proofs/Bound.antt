@@ -27,7 +27,7 @@ use Rattle.laws.proofs.Turns.{turn-laid}
 use Rattle.laws.proofs.Counting.{length-concat, paths-most, lands-most, darts-most, flat-laid, rows-lt}
 use Rattle.land.specs.Walks.{Below, BelowAll}
 use Rattle.land.proofs.Laws.{below-all}
-use Rattle.text.specs.Lines.{mostBytes}
+use Rattle.text.specs.Calls.{mostBytes}
 use Rattle.text.proofs.Laid.{dartsAll, Drawn, lined-laid, laid-name}
 use Rattle.text.proofs.Lengths.{most, below-map, fields-few, line-few, leaves-small, paths-few, lands-few, ports-few, degrees-few}
 

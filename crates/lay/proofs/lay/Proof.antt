@@ -18,10 +18,10 @@ use Rattle.lay.proofs.lay.Reads as reads
 use Rattle.lay.proofs.lay.Lts as lts
 use Rattle.lay.proofs.is_short.Reads as is-short-reads
 use Rattle.lay.proofs.lay_pairs.Reads as lay-pairs-reads
-use Rattle.lay.proofs.refusal_in.Reads as refusal-in-reads
 use Rattle.lay.proofs.wide.Reads as wide-reads
 use Rattle.plate.proofs.pairs.Reads as pairs-reads
 use Rattle.plate.proofs.read.Reads as read-reads
+use Rattle.plate.proofs.refusal_in.Reads as refusal-in-reads
 
 -- the plate that was read
 plate : (c : tie.After-got) → Known (c .before .before .before .before .before .before .before .args .file .now) (c .got .given .0 .0)

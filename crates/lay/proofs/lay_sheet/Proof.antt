@@ -14,7 +14,7 @@ lay-out-requires : tie.Need-lay-out-requires
 lay-out-requires c κs = let a = c .before .before .before .before .before .before .before .before .before .before .before .before .before .before .before .before .before .before .before .before .before .before .before .before .before .before .before .before .before .before in (a .pre .0 .plan, (a .pre .1 .0, (a .pre .0 .ofTurns, (a .pre .1 .1 .0, (a .pre .1 .1 .1 .0, (a .pre .1 .1 .1 .1 .0, a .pre .1 .1 .1 .1 .1))))))
 
 write-out-requires : tie.Need-write-out-requires
-write-out-requires c κs = ask-out _ _ _ _ _ _ _ (c .before .before .before .before .before .before .before .before .before .before .before .before .before .before .before .before .before .before .before .before .before .before .before .before .before .before .before .before .before .before .before .before .before .before .before .before .before .before .before .before .before .before .before .before .before .before .before .before .before .before .before .before .before .before .before .before .before .before .before .before .before .before .pre .0) _ _ _ _ _ (c .before .before .before .before .before .before .before .before .before .before .before .before .before .before .before .before .before .before .before .before .before .before .before .before .before .before .before .before .before .before .before .lay-out .ensures)
+write-out-requires c κs = ask-out _ _ _ _ _ _ _ (c .before .before .before .before .before .before .before .before .before .before .before .before .before .before .before .before .before .before .before .before .before .before .before .before .before .before .before .before .before .before .before .before .before .before .before .before .before .before .before .before .before .before .before .before .before .before .before .before .before .before .before .before .before .before .before .before .before .before .before .before .before .before .pre .0) _ _ _ _ _ _ _ (c .before .before .before .before .before .before .before .before .before .before .before .before .before .before .before .before .before .before .before .before .before .before .before .before .before .before .before .before .before .before .before .lay-out .ensures)
 
 laid-of-requires : tie.Need-laid-of-requires
 laid-of-requires c κs = search needs
@@ -65,7 +65,7 @@ same-length-15 : tie.Need-same-length-15
 same-length-15 c = search needs
 
 returns : tie.Need-returns
-returns c = sheet-of _ _ _ _ _ _ _ (c .before .before .before .before .before .before .before .before .before .before .before .before .before .before .before .before .before .before .before .before .before .before .before .before .before .before .before .before .before .before .before .before .before .before .before .before .before .before .before .before .before .before .before .before .before .before .before .before .before .before .before .before .before .before .before .before .before .before .before .before .before .before .before .before .before .before .before .before .pre .0) _ _ _ _ _ (c .before .before .before .before .before .before .before .before .before .before .before .before .before .before .before .before .before .before .before .before .before .before .before .before .before .before .before .before .before .before .before .before .before .before .before .before .before .lay-out .ensures) _ _ _ (c .before .before .before .before .before .write-out .ensures .0) (c .before .before .before .before .before .write-out .ensures .1) (c .laid-of .ensures)
+returns c = sheet-of _ _ _ _ _ _ _ (c .before .before .before .before .before .before .before .before .before .before .before .before .before .before .before .before .before .before .before .before .before .before .before .before .before .before .before .before .before .before .before .before .before .before .before .before .before .before .before .before .before .before .before .before .before .before .before .before .before .before .before .before .before .before .before .before .before .before .before .before .before .before .before .before .before .before .before .before .pre .0) _ _ _ _ _ _ _ (c .before .before .before .before .before .before .before .before .before .before .before .before .before .before .before .before .before .before .before .before .before .before .before .before .before .before .before .before .before .before .before .before .before .before .before .before .before .lay-out .ensures) _ _ _ (c .before .before .before .before .before .write-out .ensures .0) (c .before .before .before .before .before .write-out .ensures .1) (c .laid-of .ensures)
 
 pub lay-sheet-spec : {M : Type 1} → statement M
 lay-sheet-spec =

@@ -1,0 +1,133 @@
+-- `desk::lay_out` meets its contract: a part of each array is as long as the plate asks.
+-- Assumes nothing.
+use Rattle.desk.proofs.Parts.{part-size, desk-of}
+use borrow.Author.Needs.{needs}
+use Rattle.desk.proofs.lay_out.Statement.{statement}
+use Rattle.desk.proofs.lay_out.Tie as tie
+use Rattle.desk.proofs.lay_out.Reads as reads
+use Rattle.desk.proofs.lay_out.Lts as lts
+use Rattle.plate.proofs.Plate.all_channels.Reads as all-channels-reads
+use Rattle.plate.proofs.Plate.no_marks.Reads as no-marks-reads
+use Rattle.plate.proofs.Plate.no_ports.Reads as no-ports-reads
+use Rattle.rounds.proofs.lay_out.Reads as lay-out-reads
+
+no-marks-requires : tie.Need-no-marks-requires
+no-marks-requires c κs = search needs
+
+no-marks-requires-2 : tie.Need-no-marks-requires-2
+no-marks-requires-2 c κs = search needs
+
+no-ports-requires : tie.Need-no-ports-requires
+no-ports-requires c κs = search needs
+
+no-marks-requires-3 : tie.Need-no-marks-requires-3
+no-marks-requires-3 c κs = search needs
+
+no-ports-requires-2 : tie.Need-no-ports-requires-2
+no-ports-requires-2 c κs = search needs
+
+no-marks-requires-4 : tie.Need-no-marks-requires-4
+no-marks-requires-4 c κs = search needs
+
+all-channels-requires : tie.Need-all-channels-requires
+all-channels-requires c κs = search needs
+
+array-borrow-prefix-laid : tie.Need-array-borrow-prefix-laid
+array-borrow-prefix-laid c = search needs
+
+slice-aggregate-lay-out : tie.Need-slice-aggregate-lay-out
+slice-aggregate-lay-out c = part-size _ _ _ (c .before .before .before .before .before .before .before .before .before .before .before .before .no-marks .ensures .1) (c .before .before .before .before .before .before .before .before .before .before .before .before .before .before .before .before .before .before .before .before .before .pre .1 .0)
+
+array-borrow-prefix-marks : tie.Need-array-borrow-prefix-marks
+array-borrow-prefix-marks c = search needs
+
+slice-aggregate-lay-out-2 : tie.Need-slice-aggregate-lay-out-2
+slice-aggregate-lay-out-2 c = part-size _ _ _ (c .before .before .before .before .before .before .before .before .before .before .before .before .no-marks2 .ensures .1) (c .before .before .before .before .before .before .before .before .before .before .before .before .before .before .before .before .before .before .before .before .before .before .pre .1 .0)
+
+array-borrow-prefix-queue : tie.Need-array-borrow-prefix-queue
+array-borrow-prefix-queue c = search needs
+
+slice-aggregate-lay-out-3 : tie.Need-slice-aggregate-lay-out-3
+slice-aggregate-lay-out-3 c = part-size _ _ _ (c .before .before .before .before .before .before .before .before .before .before .before .before .no-ports .ensures .1) (c .before .before .before .before .before .before .before .before .before .before .before .before .before .before .before .before .before .before .before .before .before .before .before .pre .1 .0)
+
+array-borrow-prefix-touched : tie.Need-array-borrow-prefix-touched
+array-borrow-prefix-touched c = search needs
+
+slice-aggregate-lay-out-4 : tie.Need-slice-aggregate-lay-out-4
+slice-aggregate-lay-out-4 c = part-size _ _ _ (c .before .before .before .before .before .before .before .before .before .before .before .before .no-marks3 .ensures .1) (c .before .before .before .before .before .before .before .before .before .before .before .before .before .before .before .before .before .before .before .before .before .before .before .before .pre .1 .0)
+
+array-borrow-prefix-contacts : tie.Need-array-borrow-prefix-contacts
+array-borrow-prefix-contacts c = search needs
+
+slice-aggregate-lay-out-5 : tie.Need-slice-aggregate-lay-out-5
+slice-aggregate-lay-out-5 c = part-size _ _ _ (c .before .before .before .before .before .before .before .before .before .before .before .before .no-ports2 .ensures .1) (c .before .before .before .before .before .before .before .before .before .before .before .before .before .before .before .before .before .before .before .before .before .before .before .before .before .pre .1 .0)
+
+array-borrow-prefix-inside : tie.Need-array-borrow-prefix-inside
+array-borrow-prefix-inside c = search needs
+
+slice-aggregate-lay-out-6 : tie.Need-slice-aggregate-lay-out-6
+slice-aggregate-lay-out-6 c = part-size _ _ _ (c .before .before .before .before .before .before .before .before .before .before .before .before .no-marks4 .ensures .1) (c .before .before .before .before .before .before .before .before .before .before .before .before .before .before .before .before .before .before .before .before .before .before .before .before .before .before .pre .1 .0)
+
+array-borrow-prefix-own : tie.Need-array-borrow-prefix-own
+array-borrow-prefix-own c = search needs
+
+slice-aggregate-lay-out-7 : tie.Need-slice-aggregate-lay-out-7
+slice-aggregate-lay-out-7 c = part-size _ _ _ (c .before .before .before .before .before .before .before .before .before .before .before .before .all-channels .ensures .1) (c .before .before .before .before .before .before .before .before .before .before .before .before .before .before .before .before .before .before .before .before .before .before .before .before .before .before .before .pre .1 .1 .0)
+
+lay-out-requires : tie.Need-lay-out-requires
+lay-out-requires c κs = let a = c .before .before .before .before .before .before .before .before .before .before .before .before .before .before .before .before .before .before .before .before .before .before .before .before .before .before .before .before .pre in (a .0, (a .1 .1 .1 .0, (a .1 .1 .1 .1 .0, (a .1 .1 .1 .1 .1 .0, (a .1 .1 .1 .1 .1 .1 .0, (desk-of _ _ _ _ _ _ _ _ _ (c .before .before .before .before .before .before .before .before .before .before .before .before .before .before .before .before .before .before .before .no-marks .ensures .1) (c .before .before .before .before .before .before .before .before .before .before .before .before .before .before .before .before .before .before .no-marks2 .ensures .1) (c .before .before .before .before .before .before .before .before .before .before .before .before .before .before .before .before .before .no-ports .ensures .1) (c .before .before .before .before .before .before .before .before .before .before .before .before .before .before .before .before .no-marks3 .ensures .1) (c .before .before .before .before .before .before .before .before .before .before .before .before .before .before .before .no-ports2 .ensures .1) (c .before .before .before .before .before .before .before .before .before .before .before .before .before .before .no-marks4 .ensures .1) (c .before .before .before .before .before .before .before .before .before .before .before .before .before .all-channels .ensures .1) (a .1 .0) (a .1 .1 .0), a .1 .1 .1 .1 .1 .1 .1))))))
+
+same-length : tie.Need-same-length
+same-length c = c .before .before .before .before .before .before .before .before .before .before .before .before .before .before .before .before .before .before .before .lay-out .kept .1 .1 .1 .0
+
+same-length-2 : tie.Need-same-length-2
+same-length-2 c = c .before .before .before .before .before .before .before .before .before .before .before .before .before .before .before .before .before .before .before .lay-out .kept .1 .1 .1 .1 .0
+
+same-length-3 : tie.Need-same-length-3
+same-length-3 c = c .before .before .before .before .before .before .before .before .before .before .before .before .before .before .before .before .before .before .before .lay-out .kept .1 .1 .1 .1 .1 .0
+
+same-length-4 : tie.Need-same-length-4
+same-length-4 c = search needs
+
+same-length-5 : tie.Need-same-length-5
+same-length-5 c = search needs
+
+same-length-6 : tie.Need-same-length-6
+same-length-6 c = search needs
+
+returns : tie.Need-returns
+returns c = search needs
+
+pub lay-out-spec : {M : Type 1} → statement M
+lay-out-spec =
+    tie.close
+    (tie.spec
+    no-marks-requires
+    no-marks-requires-2
+    no-ports-requires
+    no-marks-requires-3
+    no-ports-requires-2
+    no-marks-requires-4
+    all-channels-requires
+    array-borrow-prefix-laid
+    slice-aggregate-lay-out
+    array-borrow-prefix-marks
+    slice-aggregate-lay-out-2
+    array-borrow-prefix-queue
+    slice-aggregate-lay-out-3
+    array-borrow-prefix-touched
+    slice-aggregate-lay-out-4
+    array-borrow-prefix-contacts
+    slice-aggregate-lay-out-5
+    array-borrow-prefix-inside
+    slice-aggregate-lay-out-6
+    array-borrow-prefix-own
+    slice-aggregate-lay-out-7
+    lay-out-requires
+    same-length
+    same-length-2
+    same-length-3
+    same-length-4
+    same-length-5
+    same-length-6
+    returns)

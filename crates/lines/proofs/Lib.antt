@@ -1,0 +1,4 @@
+pub mod Cutting
+pub mod Rows
+pub mod Whole
+pub mod Stories

@@ -1,0 +1,5 @@
+pub mod Same
+pub mod Writing
+pub mod Crossing
+pub mod Telling
+pub mod Entering

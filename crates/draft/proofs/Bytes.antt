@@ -1,6 +1,6 @@
 -- The bytes of a sheet (rules, `fileOf`), as they are put into a buffer one part behind the other.
--- put-bytes: the two bytes of a number, stored. put-on: bytes stored behind what is written. put-head: the first bytes. put-behind: a part of the buffer that is written and comes back.
--- turns-more: the bytes of one turn more. pairs-bytes: ports below 256 are their own bytes. sheet-parts: the parts of a sheet, one behind the other.
+-- put-bytes: the two bytes of a number, stored. put-head: the bytes before the pairs. put-turn: the bytes of one turn more. put-sheet: the three parts of a sheet.
+-- pairs-start: the pairs begin at byte 8. part-size, behind-size: a part of the buffer that is lent, and the buffer when it comes back.
 -- Assumes nothing.
 use mathlib.Core.Path.{_≡_, refl, sym, ap, _∙_}
 use mathlib.Core.List.{List, [], _∷_, _++_, map, append-assoc, append-nil, map-append}
@@ -17,7 +17,8 @@ use Rattle.draft.specs.Parts.{headOf}
 
 -- ---- stores
 
-pub put-on : (w o vs : List ℕ) (n : ℕ) → length w ≡ n → n + length vs ≤ length o → sets (w ++ drop n o) n vs ≡ w ++ vs ++ drop (n + length vs) o
+-- bytes that are stored behind w
+put-on : (w o vs : List ℕ) (n : ℕ) → length w ≡ n → n + length vs ≤ length o → sets (w ++ drop n o) n vs ≡ w ++ vs ++ drop (n + length vs) o
 put-on w o vs n e h =
     let l : n + length vs ≤ length (w ++ drop n o) = simp (length-append, length-drop) (omega arith) in
     sets-eq vs (w ++ drop n o) n l ∙ ap (λ (x : List ℕ). x ++ vs ++ drop (n + length vs) (w ++ drop n o)) (take-at w (drop n o) n e)
@@ -53,7 +54,7 @@ pub behind-size : (xs ys : List ℕ) (a : ℕ) → a ≤ length xs → length ys
 behind-size xs ys a h e = simp (length-append, length-take, length-drop) (omega (arith, e, part-size xs a h))
 
 -- the buffer xs begins with w; its part from there on is written and comes back as ys, which begins with vs
-pub put-behind : (old w vs xs ys : List ℕ) (a k : ℕ) → length w ≡ a → a ≤ length old → xs ≡ w ++ drop a old → ys ≡ vs ++ drop k (take (length xs - a) (drop a xs))
+put-behind : (old w vs xs ys : List ℕ) (a k : ℕ) → length w ≡ a → a ≤ length old → xs ≡ w ++ drop a old → ys ≡ vs ++ drop k (take (length xs - a) (drop a xs))
     → take a xs ++ (ys ++ drop (length xs - a) (drop a xs)) ≡ w ++ vs ++ drop (a + k) old
 put-behind old w vs xs ys a k e h p q =
     let behind : drop a xs ≡ drop a old = ap (drop a) p ∙ drop-at w (drop a old) a e in
@@ -68,7 +69,7 @@ unfolding concat
 concat-append [] b = refl
 concat-append (l ∷ a) b = ap (λ (m : List ℕ). l ++ m) (concat-append a b) ∙ sym (append-assoc l (concat a) (concat b))
 
-pub turns-more : (ts : List ℕ) (i : ℕ) → i < length ts → concat (map (bytes 2) (take (i + 1) ts)) ≡ concat (map (bytes 2) (take i ts)) ++ bytes 2 (getD ts i 0)
+turns-more : (ts : List ℕ) (i : ℕ) → i < length ts → concat (map (bytes 2) (take (i + 1) ts)) ≡ concat (map (bytes 2) (take i ts)) ++ bytes 2 (getD ts i 0)
 unfolding concat
 turns-more ts i h =
     rw (add-one, take-suc ts i 0 h, map-append (bytes 2) (take i ts) (getD ts i 0 ∷ []), concat-append (map (bytes 2) (take i ts)) (bytes 2 (getD ts i 0) ∷ []))
@@ -85,7 +86,8 @@ put-turn ts o part new i x h g p q r =
 
 -- ---- the pairs
 
-pub pairs-bytes : (l : List ℕ) → ((i : ℕ) → i < length l → getD l i 0 < 256) → concat (map (bytes 1) l) ≡ l
+-- numbers below 256 are their own bytes
+pairs-bytes : (l : List ℕ) → ((i : ℕ) → i < length l → getD l i 0 < 256) → concat (map (bytes 1) l) ≡ l
 unfolding concat bytes
 pairs-bytes [] h = refl
 pairs-bytes (p ∷ l) h =
@@ -94,7 +96,7 @@ pairs-bytes (p ∷ l) h =
 
 -- ---- the sheet
 
-pub sheet-parts : (v e : ℕ) (pairs turns : List ℕ) → ((i : ℕ) → i < length pairs → getD pairs i 0 < 256) → fileOf sheetFile v e pairs turns ≡ headOf v e ++ pairs ++ concat (map (bytes 2) turns)
+sheet-parts : (v e : ℕ) (pairs turns : List ℕ) → ((i : ℕ) → i < length pairs → getD pairs i 0 < 256) → fileOf sheetFile v e pairs turns ≡ headOf v e ++ pairs ++ concat (map (bytes 2) turns)
 unfolding fileOf headOf
 sheet-parts v e pairs turns h = ap (λ (m : List ℕ). headOf v e ++ m ++ concat (map (bytes 2) turns)) (pairs-bytes pairs h)
 

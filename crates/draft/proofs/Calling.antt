@@ -1,6 +1,6 @@
 -- The writing call (rules, `writeSheet`) by what reading and laying gave: a refusal, a buffer too short, a plate that is STUCK, or a sheet.
 --   Unstuck r            the laying code's answer r is not STUCK
--- refused-all, given-all: what an answer stands for, and what is left of the buffer. unread-all, short-all, stuck-all, flat-all: so it is in each case.
+-- unread-all, short-all, stuck-all, flat-all: in each of the four cases, what the code answers and leaves is what document 01 gives.
 -- unstuck-of: an answer of another kind is not STUCK. stuck-small: the name of a fragment is a small number.
 -- Assumes nothing.
 use mathlib.Core.Path.{_≡_, refl, sym, ap, _∙_, subst}
@@ -41,11 +41,11 @@ use Rattle.draft.specs.Answers.{writtenAnswer, done}
 
 -- ---- what an answer stands for
 
-pub refused-all : (a : Answer (List ℕ)) (y : Refusal) → a ≡ refused (y .number) (y .place) → (old : List ℕ) → (writtenAnswer (Refused y) ≡ done a) × (old ≡ sheetLeft a old)
+refused-all : (a : Answer (List ℕ)) (y : Refusal) → a ≡ refused (y .number) (y .place) → (old : List ℕ) → (writtenAnswer (Refused y) ≡ done a) × (old ≡ sheetLeft a old)
 unfolding writtenAnswer done sheetLeft
 refused-all a y e old = (sym (ap done e), sym (ap (λ (x : Answer (List ℕ)). sheetLeft x old) e))
 
-pub given-all : (a : Answer (List ℕ)) (s old new : List ℕ) → a ≡ given s → new ≡ s ++ drop (length s) old → (writtenAnswer Done ≡ done a) × (new ≡ sheetLeft a old)
+given-all : (a : Answer (List ℕ)) (s old new : List ℕ) → a ≡ given s → new ≡ s ++ drop (length s) old → (writtenAnswer Done ≡ done a) × (new ≡ sheetLeft a old)
 unfolding writtenAnswer done sheetLeft
 given-all a s old new e h = (sym (ap done e), h ∙ sym (ap (λ (x : Answer (List ℕ)). sheetLeft x old) e))
 

@@ -125,7 +125,7 @@ fn stuck_at(name: usize) -> Refusal
     }
 }
 
-// Lays the plate p of the file without a cap, and writes its sheet where all channels are laid.
+// Lays the plate p of the file without a cap, and writes its sheet; refusal 16 where it is STUCK.
 fn lay_sheet(file: &[u8], p: Plate, out: &mut [u8]) -> Written
     requires plate { ⌜ readingOf (Read p) (now file) ≡ readPlate (now file) ⌝ }
     requires room { ⌜ fileLength sheetFile (p .channels) ≤ length (now out) ⌝ }

@@ -1,7 +1,6 @@
 -- What the code's answers stand for: document 01's word, number of paths and name, or its refusal.
 --   laidAnswer r          what the laying call answers: of each case the word, the number of paths and the name, 0 where it is not STUCK; or the refusal
 --   laidOf e              the answer for the end of a laying
---   wholeEnough ..        each of the three lent slices has the elements that the call needs
 -- Assumes nothing.
 use Prim.Native.Nat.{ℕ}
 use Rattle.rules.specs.Refusals.{Answer, given, refused}

@@ -12,7 +12,7 @@
 -- Assumes nothing.
 use mathlib.Core.Path.{_≡_}
 use mathlib.Core.List.{List, [], _∷_, _++_, map}
-use Prim.Native.Nat.{ℕ, _+_, _%_, _<_, _≤_}
+use Prim.Native.Nat.{ℕ, _%_, _<_, _≤_}
 use lib.ListN.{length, getD}
 use Rattle.rules.specs.Lists.{from, concat}
 use Rattle.rules.specs.Terms.{missing, dartsAt, ring}

@@ -1,7 +1,7 @@
 // The listing program: reads a plate file from standard input, and writes its listing to standard output.
 use plate::Plate;
 
-// A byte more than the longest plate file has: a longer file is refused by its first so many bytes as by all.
+// A byte more than the longest plate file has. The listing of a file is that of its first so many bytes (text, "Enough").
 const ENOUGH: usize = Plate::PAIRS_AT + 2 * Plate::MOST_CHANNELS + 1;
 
 fn main() {

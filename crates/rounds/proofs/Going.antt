@@ -1,5 +1,5 @@
 -- The rounds (rules, "Laying"), one after another: what each verdict makes of them.
---   Ended v ends play s m w      w is the word of the rounds from the state s on, m paths at most, and they end there
+--   Over said      a verdict of the code that is not to go on
 -- judged: the verdict depends on turns and lands alone. ready-of: a verdict of the code to go on has a choice. going: a path laid is one of the rounds. ended, held-up: where a verdict ends them, and where no path is left.
 -- Assumes nothing.
 use mathlib.Core.Path.{_≡_, refl, sym, ap, _∙_, subst}

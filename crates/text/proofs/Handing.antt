@@ -1,7 +1,7 @@
 -- From laying to listing: a plate that was read and laid without a cap can be listed from the slices that hold what was laid, and what is written is the file's listing.
 -- rings-of: the rings of a plate that is FLAT. held-of: what `write_listing` asks of the slices. listing-of: what it writes is the listing.
 -- Assumes nothing.
-use mathlib.Core.Path.{_≡_, refl, sym, ap, _∙_, subst}
+use mathlib.Core.Path.{_≡_, sym, ap, _∙_, subst}
 use mathlib.Core.List.{List, [], _∷_}
 use Prim.Native.Nat.{ℕ, zero, suc, _<_, _≤_}
 use native.Mathlib.Omega.{arith}

@@ -3,3 +3,4 @@ pub mod Lengths
 pub mod Bound
 pub mod Handing
 pub mod Calling
+pub mod Enough

@@ -4,12 +4,6 @@ use Rattle.desk.proofs.Parts.{part-size, desk-of}
 use borrow.Author.Needs.{needs}
 use Rattle.desk.proofs.lay_out.Statement.{statement}
 use Rattle.desk.proofs.lay_out.Tie as tie
-use Rattle.desk.proofs.lay_out.Reads as reads
-use Rattle.desk.proofs.lay_out.Lts as lts
-use Rattle.plate.proofs.Plate.all_channels.Reads as all-channels-reads
-use Rattle.plate.proofs.Plate.no_marks.Reads as no-marks-reads
-use Rattle.plate.proofs.Plate.no_ports.Reads as no-ports-reads
-use Rattle.rounds.proofs.lay_out.Reads as lay-out-reads
 
 no-marks-requires : tie.Need-no-marks-requires
 no-marks-requires c κs = search needs

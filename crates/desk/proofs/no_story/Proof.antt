@@ -4,8 +4,6 @@ use mathlib.Core.Path.{refl}
 use Rattle.desk.specs.Room.{noStory}
 use Rattle.desk.proofs.no_story.Statement.{statement}
 use Rattle.desk.proofs.no_story.Tie as tie
-use Rattle.desk.proofs.no_story.Reads as reads
-use Rattle.desk.proofs.no_story.Lts as lts
 
 returns : tie.Need-returns
 unfolding noStory

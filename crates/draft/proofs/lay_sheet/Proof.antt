@@ -23,15 +23,19 @@ plate c = known _ (Read (c .args .p)) (c .pre .0) _ refl
 sized : (c : tie.Start) (l : List ℕ) → mostDarts ≡ length l → (2 * c .args .p .channels ≤ length l) × (c .args .p .channels + 2 - c .args .p .ports ≤ length l)
 sized c l e = (omega (arith, plate c .most-channels), omega (arith, plate c .most-channels))
 
--- the parts that were lent
-most-lent : (c : tie.After-lay-pairs) → length (take (c .before .before .before .before .before .before .before .before .before .before .before .before .before .args .p .channels + 2 - c .before .before .before .before .before .before .before .before .before .before .before .before .before .args .p .ports) (c .before .before .before .before .before .no-turns3 .result)) ≡ c .before .before .before .before .before .before .before .before .before .before .before .before .before .args .p .channels + 2 - c .before .before .before .before .before .before .before .before .before .before .before .before .before .args .p .ports
-most-lent c = length-take-le _ _ (sized (c .before .before .before .before .before .before .before .before .before .before .before .before .before) (c .before .before .before .before .before .no-turns3 .result) (c .before .before .before .before .before .no-turns3 .ensures .1) .1)
+-- where the function began, seen from behind the laying
+abbrev start : tie.After-lay-pairs → tie.Start
+start c = c .before .before .before .before .before .before .before .before .before .before .before .before .before
 
-turns-lent : (c : tie.After-lay-pairs) → length (c .lay-pairs .last .1 .1 .1 .0) ≡ 2 * c .before .before .before .before .before .before .before .before .before .before .before .before .before .args .p .channels
-turns-lent c = c .lay-pairs .kept .1 .1 .1 .0 ∙ length-take-le _ _ (sized (c .before .before .before .before .before .before .before .before .before .before .before .before .before) (c .before .before .before .before .before .before .before .no-turns .result) (c .before .before .before .before .before .before .before .no-turns .ensures .1) .0)
+-- the parts that were lent
+most-lent : (c : tie.After-lay-pairs) → length (take (start c .args .p .channels + 2 - start c .args .p .ports) (c .before .before .before .before .before .no-turns3 .result)) ≡ start c .args .p .channels + 2 - start c .args .p .ports
+most-lent c = length-take-le _ _ (sized (start c) (c .before .before .before .before .before .no-turns3 .result) (c .before .before .before .before .before .no-turns3 .ensures .1) .1)
+
+turns-lent : (c : tie.After-lay-pairs) → length (c .lay-pairs .last .1 .1 .1 .0) ≡ 2 * start c .args .p .channels
+turns-lent c = c .lay-pairs .kept .1 .1 .1 .0 ∙ length-take-le _ _ (sized (start c) (c .before .before .before .before .before .before .before .no-turns .result) (c .before .before .before .before .before .before .before .no-turns .ensures .1) .0)
 
 -- the array of the turns begins with them
-turns-front : (c : tie.After-lay-pairs) → take (2 * c .before .before .before .before .before .before .before .before .before .before .before .before .before .args .p .channels) (c .lay-pairs .last .1 .1 .1 .0 ++ drop (2 * c .before .before .before .before .before .before .before .before .before .before .before .before .before .args .p .channels) (c .before .before .before .before .before .before .before .no-turns .result)) ≡ c .lay-pairs .last .1 .1 .1 .0
+turns-front : (c : tie.After-lay-pairs) → take (2 * start c .args .p .channels) (c .lay-pairs .last .1 .1 .1 .0 ++ drop (2 * start c .args .p .channels) (c .before .before .before .before .before .before .before .no-turns .result)) ≡ c .lay-pairs .last .1 .1 .1 .0
 turns-front c = take-at _ _ _ (turns-lent c)
 
 mul-darts : tie.Need-mul-darts
@@ -80,10 +84,12 @@ enum-known-laid : tie.Need-enum-known-laid
 enum-known-laid c = search needs
 
 stuck-at-requires : tie.Need-stuck-at-requires
-stuck-at-requires c κs = let l = c .before .before .before .before .before .before in stuck-small _ _ (plate (l .before .before .before .before .before .before .before .before .before .before .before .before .before)) _ (l .before .before .before .before .pairs .ensures) _ _ _ _ _ (l .lay-pairs .ensures) (most-lent l) _ _ (c .before .laid .given .1)
+stuck-at-requires c κs =
+    let l = c .before .before .before .before .before .before in
+    omega (arith, stuck-small _ _ (plate (start l)) _ (l .before .before .before .before .pairs .ensures) _ _ _ _ _ (l .lay-pairs .ensures) (most-lent l) _ _ (c .before .laid .given .1))
 
 returns : tie.Need-returns
-returns c = let l = c .before .before .before .before .before .before .before in stuck-all _ _ (plate (l .before .before .before .before .before .before .before .before .before .before .before .before .before)) _ (l .before .before .before .before .pairs .ensures) _ _ _ _ _ (l .lay-pairs .ensures) (most-lent l) (l .before .before .before .before .before .before .before .before .before .before .before .before .before .args .out .now) (l .before .before .before .before .before .before .before .before .before .before .before .before .before .pre .1) _ _ (c .before .before .laid .given .1) _ (c .stuck-at .ensures)
+returns c = let l = c .before .before .before .before .before .before .before in stuck-all _ _ (plate (start l)) _ (l .before .before .before .before .pairs .ensures) _ _ _ _ _ (l .lay-pairs .ensures) (most-lent l) (start l .args .out .now) (start l .pre .1) _ _ (c .before .before .laid .given .1) _ (c .stuck-at .ensures)
 
 array-share-prefix-turns : tie.Need-array-share-prefix-turns
 array-share-prefix-turns c = simp length-append (omega (arith, turns-lent (c .before .before .before .before)))
@@ -92,13 +98,13 @@ slice-aggregate-put-sheet : tie.Need-slice-aggregate-put-sheet
 slice-aggregate-put-sheet c = let l = c .before .before .before .before .before in sym (ap length (turns-front l) ∙ turns-lent l)
 
 put-sheet-requires : tie.Need-put-sheet-requires
-put-sheet-requires c κs = let l = c .before .before .before .before .before .before in (ap length (l .before .before .before .before .pairs .ensures) ∙ pairs-length _ _ (plate (l .before .before .before .before .before .before .before .before .before .before .before .before .before)), (ap length (turns-front l) ∙ turns-lent l, l .before .before .before .before .before .before .before .before .before .before .before .before .before .pre .1))
+put-sheet-requires c κs = let l = c .before .before .before .before .before .before in (ap length (l .before .before .before .before .pairs .ensures) ∙ pairs-length _ _ (plate (start l)), (ap length (turns-front l) ∙ turns-lent l, start l .pre .1))
 
 same-length : tie.Need-same-length
 same-length c = search needs
 
 returns-2 : tie.Need-returns-2
-returns-2 c = let l = c .before .before .before .before .before .before .before .before .before in flat-all _ _ (plate (l .before .before .before .before .before .before .before .before .before .before .before .before .before)) _ (l .before .before .before .before .pairs .ensures) _ _ _ _ _ (l .lay-pairs .ensures) (most-lent l) (l .before .before .before .before .before .before .before .before .before .before .before .before .before .args .out .now) (l .before .before .before .before .before .before .before .before .before .before .before .before .before .pre .1) (unstuck-of (l .lay-pairs .result) (c .before .before .before .before .before .match .keys2)) _ _ (turns-front l) (c .before .before .put-sheet .ensures)
+returns-2 c = let l = c .before .before .before .before .before .before .before .before .before in flat-all _ _ (plate (start l)) _ (l .before .before .before .before .pairs .ensures) _ _ _ _ _ (l .lay-pairs .ensures) (most-lent l) (start l .args .out .now) (start l .pre .1) (unstuck-of (l .lay-pairs .result) (c .before .before .before .before .before .match .keys2)) _ _ (turns-front l) (c .before .before .put-sheet .ensures)
 
 pub lay-sheet-spec : {M : Type 1} → statement M
 lay-sheet-spec =

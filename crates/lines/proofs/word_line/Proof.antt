@@ -9,10 +9,6 @@ use Rattle.lines.proofs.Cutting.{word-flat, word-stuck, word-partial}
 use borrow.Author.Needs.{needs}
 use Rattle.lines.proofs.word_line.Statement.{statement}
 use Rattle.lines.proofs.word_line.Tie as tie
-use Rattle.lines.proofs.word_line.Reads as reads
-use Rattle.lines.proofs.word_line.Lts as lts
-use Rattle.lines.proofs.pair_line.Reads as pair-line-reads
-use Rattle.lines.proofs.short_line.Reads as short-line-reads
 
 enum-told : tie.Need-enum-told
 enum-told c = search needs

@@ -6,11 +6,6 @@ use Rattle.text.proofs.Calling.{count-within}
 use borrow.Author.Needs.{needs}
 use Rattle.list.proofs.main.Statement.{statement}
 use Rattle.list.proofs.main.Tie as tie
-use Rattle.list.proofs.main.Reads as reads
-use Rattle.list.proofs.main.Lts as lts
-use Rattle.io.proofs.read_full.Reads as read-full-reads
-use Rattle.io.proofs.write_all.Reads as write-all-reads
-use Rattle.text.proofs.listing.Reads as listing-reads
 
 slice-aggregate-read-full : tie.Need-slice-aggregate-read-full
 slice-aggregate-read-full c = search needs

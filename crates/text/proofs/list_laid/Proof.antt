@@ -6,10 +6,6 @@ use Rattle.text.proofs.Calling.{filed-ports, filed-channels, filed-plan
 use borrow.Author.Needs.{needs}
 use Rattle.text.proofs.list_laid.Statement.{statement}
 use Rattle.text.proofs.list_laid.Tie as tie
-use Rattle.text.proofs.list_laid.Reads as reads
-use Rattle.text.proofs.list_laid.Lts as lts
-use Rattle.desk.proofs.lay_out.Reads as lay-out-reads
-use Rattle.lines.proofs.write_listing.Reads as write-listing-reads
 
 lay-out-requires : tie.Need-lay-out-requires
 lay-out-requires c κs = let a = c .before .before .before .before .before .before .before .before .before .before .before .before .before .before .before .pre in (filed-plan _ _ _ (a .0), (filed-ports _ _ _ (a .0), (filed-channels _ _ _ (a .0), (a .1 .0, (a .1 .1 .0, (a .1 .1 .1 .0, (a .1 .1 .1 .1 .0, a .1 .1 .1 .1 .1 .0)))))))

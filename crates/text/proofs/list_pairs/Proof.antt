@@ -11,13 +11,6 @@ use Rattle.text.proofs.Calling.{pairs-few, ask-turns, same-lines}
 use borrow.Author.Needs.{needs}
 use Rattle.text.proofs.list_pairs.Statement.{statement}
 use Rattle.text.proofs.list_pairs.Tie as tie
-use Rattle.text.proofs.list_pairs.Reads as reads
-use Rattle.text.proofs.list_pairs.Lts as lts
-use Rattle.desk.proofs.no_story.Reads as no-story-reads
-use Rattle.plate.proofs.Plate.all_channels.Reads as all-channels-reads
-use Rattle.plate.proofs.Plate.no_ends.Reads as no-ends-reads
-use Rattle.plate.proofs.copy_ends.Reads as copy-ends-reads
-use Rattle.text.proofs.list_turns.Reads as list-turns-reads
 
 -- what is lent of the two arrays
 ends-so : (c : tie.After-copy-ends) → take (length (c .before .before .before .before .before .args .pairs .now)) (c .copy-ends .last .1 .0) ≡ c .before .before .before .before .before .args .pairs .now

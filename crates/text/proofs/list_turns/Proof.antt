@@ -10,12 +10,6 @@ use Rattle.text.proofs.Calling.{filed-ports, filed-darts, ask-laid}
 use borrow.Author.Needs.{needs}
 use Rattle.text.proofs.list_turns.Statement.{statement}
 use Rattle.text.proofs.list_turns.Tie as tie
-use Rattle.text.proofs.list_turns.Reads as reads
-use Rattle.text.proofs.list_turns.Lts as lts
-use Rattle.plate.proofs.Plate.no_ends.Reads as no-ends-reads
-use Rattle.plate.proofs.Plate.no_ports.Reads as no-ports-reads
-use Rattle.plate.proofs.Plate.no_turns.Reads as no-turns-reads
-use Rattle.text.proofs.list_laid.Reads as list-laid-reads
 
 no-ports-requires : tie.Need-no-ports-requires
 no-ports-requires c κs = search needs

@@ -9,12 +9,6 @@ use Rattle.text.proofs.Calling.{filed-of, part-is, ask-refused, call-sh
 use borrow.Author.Needs.{needs}
 use Rattle.text.proofs.listing.Statement.{statement}
 use Rattle.text.proofs.listing.Tie as tie
-use Rattle.text.proofs.listing.Reads as reads
-use Rattle.text.proofs.listing.Lts as lts
-use Rattle.lines.proofs.refused_line.Reads as refused-line-reads
-use Rattle.plate.proofs.read.Reads as read-reads
-use Rattle.text.proofs.list_pairs.Reads as list-pairs-reads
-use Rattle.text.proofs.wide.Reads as wide-reads
 
 -- the plate that was read
 plate : (c : tie.After-got) → Known (c .before .before .before .before .before .before .args .file .now) (c .got .given .0 .0)
@@ -28,7 +22,7 @@ refusal c =
     ∙ ap (refused (c .before .wide .result)) (sym (c .wide2 .ensures))
 
 returns : tie.Need-returns
-returns c = call-short _ _ (c .if1 .taken)
+returns c = call-short (c .before .before .before .args .file .now) (c .before .before .before .args .out .now) (omega (arith, c .if1 .taken))
 
 read-requires : tie.Need-read-requires
 read-requires c κs = search needs

@@ -21,7 +21,7 @@ static const char *words(uint32_t number) {
     case PLATE_AWAY_TURN: return "the turn of a dart leaves another port: dart";
     case PLATE_BROKEN_RING: return "the darts do not form one ring at port";
     case PLATE_SHORT_BUFFER: return "the buffer for the sheet is too short";
-    case PLATE_STUCK: return "the plate can't be laid without a crossing; stuck at the part of channel";
+    case PLATE_STUCK: return "stuck: no land touches all the laid ports of the part of channel";
     default: return "unknown";
   }
 }

@@ -5,7 +5,7 @@
    only read, and must not overlap `out`. There is no global state, so calls may run in any number of
    threads at once, each with its own `out`. A call ends for every input, of every length and content.
 
-   Stack that a call uses, measured (tests/stack.c): write STACK_WRITE bytes, judge STACK_JUDGE bytes.
+   Neither call uses more stack than PLATE_WRITE_STACK or PLATE_JUDGE_STACK bytes (tests/stack.c measures it).
 
    The answer is 0 or 1 as said below, or a refusal: number * 65536 + place. */
 #ifndef LLENTISQUEL_H
@@ -48,6 +48,9 @@ enum {
 /* The bytes that the sheet of a plate with so many channels needs; enough for every plate. */
 #define PLATE_SHEET_BYTES(channels) (8 + 6 * (size_t)(channels))
 #define PLATE_MOST_SHEET_BYTES PLATE_SHEET_BYTES(600)
+
+/* Bytes of stack, at most. */
+enum { PLATE_WRITE_STACK = 32768, PLATE_JUDGE_STACK = 16384 };
 
 /* Lays the plate of a plate file and writes its turn sheet to the front of `out`: PLATE_DONE, or
    refusals 1 to 11, 15 and 16. Bytes behind the sheet, and on a refusal all bytes, stay as they were. */

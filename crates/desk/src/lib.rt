@@ -9,6 +9,9 @@ ghost use Rattle.desk.specs.Room.{storySize, noStory};
 use plate::Plate;
 use rounds::End;
 
+// The number of paths that is no cap.
+pub const WITHOUT_CAP: usize = 4294967295;
+
 // The most numbers in the record of what was laid.
 const STORY: usize = 4 * Plate::MOST_CHANNELS + Plate::MOST_PORTS + 4;
 

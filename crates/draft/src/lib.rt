@@ -24,9 +24,6 @@ pub enum Written {
     Refused(Refusal),
 }
 
-// As many paths as can be allowed: laying without a cap.
-const NO_CAP: usize = u32::MAX as usize;
-
 // ---- numbers in a file
 
 // The low byte of a number.
@@ -141,7 +138,7 @@ fn lay_sheet(file: &[u8], p: Plate, out: &mut [u8]) -> Written
     let laid = lay::lay_pairs(
         pairs,
         p.ports,
-        NO_CAP,
+        desk::WITHOUT_CAP,
         &mut turns[..darts],
         &mut lands[..darts],
         &mut lengths[..most],

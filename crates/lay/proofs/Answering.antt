@@ -1,7 +1,7 @@
 -- What the answers of the small functions say (specs, "Answers").
 -- laid-flat, laid-stuck, laid-partial: the answer for each word. short-..: the test of the lent slices, by the test that decides.
 -- Assumes nothing.
-use mathlib.Core.Path.{_≡_, refl, sym, ap, _∙_}
+use mathlib.Core.Path.{_≡_, refl, sym, ap}
 use mathlib.Core.Bool.{Bool, true, false, _||_}
 use Prim.Native.Nat.{ℕ, _<_, _≤_}
 use lib.Dec.{ltb}
@@ -29,10 +29,6 @@ laid-partial r e = ap (λ (w : Word). given (record { word = wordIn w; paths = r
 or-false : (b : Bool) → b || false ≡ b
 or-false true = refl
 or-false false = refl
-
-or-true : (b : Bool) → b || true ≡ true
-or-true true = refl
-or-true false = refl
 
 pub short-first : (t d : ℕ) (b : Bool) → t < d → true ≡ (ltb t d || b)
 short-first t d b h = rw (lt-ltb t d h) refl

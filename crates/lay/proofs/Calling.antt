@@ -1,40 +1,32 @@
 -- The laying call (rules, `layPlate`) by what reading gave: a refusal, slices too short, or a plate that is laid.
 --   shortOf p t l s       one of t turns, l land darts and s lengths is fewer than the plate p needs
---   callOf b n t l s      the call on the file b with n paths at most, and so many elements lent
 -- call-refused: a file that is refused. call-short: slices too short. call-laid: a plate that is laid. fits: the plate of a file that was read can be laid. laid-..: what is then left.
 -- Assumes nothing.
 use mathlib.Core.Path.{_≡_, refl, sym, ap, _∙_, subst}
 use mathlib.Core.Bool.{Bool, true, false, cond, _||_}
-use mathlib.Core.List.{List, [], _∷_, _++_, map, append-nil}
-use Prim.Native.Nat.{ℕ, _+_, _-_, _*_, _/_, _≤_, _<_}
+use mathlib.Core.List.{List, _++_, map, append-nil}
+use Prim.Native.Nat.{ℕ, _+_, _-_, _*_, _/_, _≤_}
 use native.Mathlib.Omega.{arith}
 use lib.Dec.{ltb}
 use borrow.Author.Tests.{ltb-false}
 use lib.ListN.{length, drop, replicate, length-replicate, length-map}
 use Rattle.rules.specs.Lists.{any, concat}
 use Rattle.rules.specs.Terms.{missing}
-use Rattle.rules.specs.Files.{limits1, plateFile, portsIn, channelsIn, endsIn}
 use Rattle.rules.specs.Refusals.{Answer, given, refused, passed, _>>=_, _>>_, refuse, lentTest, Plate as RulePlate, readPlate, pairsOf}
-use Rattle.rules.specs.Laying.{Laid as Laying, Told, laying, wholePlate, laidOut, landsOfFlat, layPlate, told, filled, turnsLeft, landsLeft, lengthsLeft}
-use Rattle.laws.proofs.Refusals.{length-ends}
-use Rattle.laws.proofs.Reaches.{wide-of}
-use Rattle.laws.proofs.Reading.{Accepted, accepted, layable, channel-play, kept-laidOut}
+use Rattle.rules.specs.Laying.{Laid as Laying, laying, wholePlate, laidOut, landsOfFlat, layPlate, told, filled, turnsLeft, landsLeft, lengthsLeft}
+use Rattle.laws.proofs.Reading.{Accepted, accepted, kept-laidOut}
 use Rattle.laws.proofs.Counting.{paths-most, lands-most}
 use Rattle.plate.specs.declared.Plate.{Plate}
 use Rattle.plate.specs.declared.Refusal.{Refusal}
 use Rattle.plate.specs.declared.Reading.{Reading}
 use Rattle.plate.specs.declared.Reading.the-variants.{Refused as Unread}
 use Rattle.plate.specs.Answers.{readingOf, refusalIn}
-use Rattle.plate.proofs.Laws.{plateIn, Known, unread, pairs-ends}
-use Rattle.rounds.specs.Stories.{saidOf}
-use Rattle.step.specs.Rooms.{Plan}
+use Rattle.plate.proofs.Laws.{plateIn, Known, unread}
+use Rattle.desk.proofs.Plans.{plan-of, same-ends, same-play}
 use Rattle.lay.specs.declared.Laid.{Laid}
 use Rattle.lay.specs.declared.Laid.the-variants.{Refused}
 use Rattle.lay.specs.Answers.{laidAnswer}
 use Rattle.lay.specs.Sheets.{Fit, Sheet}
-
-abbrev pub callOf : List ℕ → ℕ → ℕ → ℕ → ℕ → Answer Laying
-callOf b n t l s = layPlate b n t l s
 
 abbrev pub shortOf : RulePlate → ℕ → ℕ → ℕ → Bool
 shortOf p t l s = ltb t (2 * p .channels) || (ltb l (2 * p .channels) || (ltb s (landsOfFlat p) || false))
@@ -126,15 +118,6 @@ module _ (b : List ℕ) (p : Plate) (k : Known b p) where
   call-laid n t l s h = call-given b n t l s P false (k .answer) h
 
   module _ (n : ℕ) (pairs : List ℕ) (e : pairs ≡ pairsOf b) where
-    same-ends : pairs ≡ P .ends
-    same-ends = e ∙ pairs-ends b p k
-
-    same-play : replicate (length pairs / 2) true ≡ wholePlate P
-    same-play = let z : length pairs / 2 ≡ P .channels = omega (arith, ap length same-ends, A .size) in ap (λ (m : ℕ). replicate m true) z
-
-    plan : Plan (P .ports) (P .ends) (wholePlate P)
-    plan = record { layable = layable P A; wide = wide-of (P .ports) (P .ends) (wholePlate P) (A .ports .0) (A .uncut); some = (0, channel-play P A); small = omega (arith, A .ports .1) }
-
     laid-is : laying (P .ports) (P .ends) (wholePlate P) n ≡ laidOut P n
     unfolding laidOut
     laid-is = refl
@@ -142,11 +125,11 @@ module _ (b : List ℕ) (p : Plate) (k : Known b p) where
     pub fits : (t l ns : List ℕ) → length t ≡ 2 * p .channels → length l ≡ 2 * p .channels → length ns ≡ p .channels + 2 - p .ports
         → Fit (p .ports) pairs (replicate (length pairs / 2) true) n t l ns
     fits t l ns a c m =
-        subst (λ (w : List Bool). Fit (p .ports) pairs w n t l ns) (sym same-play)
-        (subst (λ (w : List ℕ). Fit (p .ports) w (wholePlate P) n t l ns) (sym same-ends)
+        subst (λ (w : List Bool). Fit (p .ports) pairs w n t l ns) (sym (same-play b p k pairs e))
+        (subst (λ (w : List ℕ). Fit (p .ports) w (wholePlate P) n t l ns) (sym (same-ends b p k pairs e))
         (subst (λ (w : ℕ). Fit w (P .ends) (wholePlate P) n t l ns) (sym (k .ports))
         (record {
-          plan = plan;
+          plan = plan-of P A;
           ports = A .ports .1;
           channels = omega (arith, length-replicate (P .channels) true, A .channels .1);
           ofTurns = omega (arith, a, A .size, k .channels);
@@ -158,8 +141,8 @@ module _ (b : List ℕ) (p : Plate) (k : Known b p) where
       S′ : Sheet (P .ports) (P .ends) (wholePlate P) n m t l ns r
       S′ =
           subst (λ (w : ℕ). Sheet w (P .ends) (wholePlate P) n m t l ns r) (k .ports)
-          (subst (λ (w : List ℕ). Sheet (p .ports) w (wholePlate P) n m t l ns r) same-ends
-          (subst (λ (w : List Bool). Sheet (p .ports) pairs w n m t l ns r) same-play S))
+          (subst (λ (w : List ℕ). Sheet (p .ports) w (wholePlate P) n m t l ns r) (same-ends b p k pairs e)
+          (subst (λ (w : List Bool). Sheet (p .ports) pairs w n m t l ns r) (same-play b p k pairs e) S))
 
       pub laid-told : laidAnswer r ≡ told a
       unfolding told laidOut

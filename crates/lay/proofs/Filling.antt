@@ -1,12 +1,11 @@
 -- Lent slices as they are filled (rules, "What is left"): a list at the front, and then a mark.
--- front-filled: writing l and then filling gives that. part-size: a part of an array has its length. part-of-marks: a part of equal marks.
+-- front-filled: writing l and then filling gives that. front-copied: so does copying the first n of a list and then filling.
 -- Assumes nothing.
-use mathlib.Core.Path.{_≡_, refl, sym, ap, _∙_}
-use mathlib.Core.List.{List, [], _∷_, _++_, append-nil, append-assoc}
-use Prim.Native.Nat.{ℕ, zero, suc, _+_, _-_, _≤_}
-use native.Mathlib.Nat.{not-suc-le-zero}
+use mathlib.Core.Path.{_≡_, sym, ap, _∙_}
+use mathlib.Core.List.{List, _++_, append-nil}
+use Prim.Native.Nat.{ℕ, _-_, _≤_}
 use native.Mathlib.Omega.{arith}
-use lib.ListN.{length, take, drop, replicate, length-append, length-drop, length-take, length-replicate, drop-of-length-le}
+use lib.ListN.{length, take, drop, replicate, length-append, length-drop, drop-of-length-le}
 use lib.Seq.{take-at, length-take-le}
 
 pub front-filled : (l old new : List ℕ) (n d m : ℕ) → n ≡ length l → new ≡ l ++ drop (length l) old → length l ≤ length old → d ≡ length old
@@ -17,15 +16,6 @@ front-filled l old new n d m e h r g =
     let k : d - n ≡ length old - length l = omega arith in
     rw (t, k, drop-of-length-le new z) (append-nil (l ++ replicate (length old - length l) m))
 
-pub part-size : {A : Type 0} (n m : ℕ) (l : List A) → m ≡ length l → n ≤ m → n ≡ length (take n l)
-part-size n m l e h = sym (length-take-le n l (omega arith))
-
-pub part-of-marks : {A : Type 0} (a : A) (n m : ℕ) → n ≤ m → take n (replicate m a) ≡ replicate n a
-part-of-marks a zero m h = refl
-part-of-marks a (suc n) zero h = absurd (not-suc-le-zero h)
-part-of-marks a (suc n) (suc m) h = ap (λ (l : List _). a ∷ l) (part-of-marks a n m (omega arith))
-
--- the first n of a list, copied to the front and then filled
 pub front-copied : (from old new : List ℕ) (n d m : ℕ) → new ≡ take n from ++ drop n old → n ≤ length from → n ≤ length old → d ≡ length old → take n new ++ replicate (d - n) m ++ drop d new ≡ take n from ++ replicate (length old - n) m
 front-copied from old new n d m h a b g =
     let e : length (take n from) ≡ n = length-take-le n from a in

@@ -1,17 +1,16 @@
 -- What a laying leaves in the slices lent (specs, "Sheets"), and what a plate that is read asks of them.
 -- ask-out: the lands that are held can be written out. sheet-of: what is then in the slices.
 -- Assumes nothing.
-use mathlib.Core.Path.{_≡_, refl, sym, ap, _∙_, subst}
-use mathlib.Core.Bool.{Bool, true}
+use mathlib.Core.Path.{_≡_, ap, _∙_}
+use mathlib.Core.Bool.{Bool}
 use mathlib.Core.List.{List, _++_, map}
-use Prim.Native.Nat.{ℕ, _+_, _-_, _*_, _≤_}
+use Prim.Native.Nat.{ℕ, _-_, _≤_}
 use native.Mathlib.Omega.{arith}
 use lib.ListN.{length, take, replicate}
 use Rattle.rules.specs.Lists.{concat}
 use Rattle.rules.specs.Terms.{missing}
 use Rattle.rules.specs.Refusals.{given}
-use Rattle.rules.specs.Laying.{State, Outcome, first, laying}
-use Rattle.laws.proofs.Euler.{lengthAll}
+use Rattle.rules.specs.Laying.{Outcome, laying}
 use Rattle.laws.proofs.Rounds.{Kept}
 use Rattle.laws.proofs.FirstCycle.{kept-laying}
 use Rattle.laws.proofs.Counting.{length-concat}
@@ -19,7 +18,7 @@ use Rattle.land.specs.Walks.{lands, Walkable}
 use Rattle.split.proofs.Laws.{holds-lands, holds-walkable}
 use Rattle.step.proofs.Telling.{lands-few}
 use Rattle.rounds.specs.declared.End.{End}
-use Rattle.rounds.specs.Stories.{saidBy, saidOf}
+use Rattle.rounds.specs.Stories.{saidBy}
 use Rattle.rounds.specs.Rooms.{Left}
 use Rattle.lay.specs.declared.Laid.{Laid}
 use Rattle.lay.specs.Answers.{laidAnswer}

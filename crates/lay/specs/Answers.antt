@@ -1,12 +1,8 @@
 -- What the code's answers stand for: document 01's word, number of paths and name, or its refusal.
---   laidAnswer r          what the laying call answers: of each case the word, the number of paths and the name, 0 where it is not STUCK; or the refusal
---   laidOf e              the answer for the end of a laying
+--   laidAnswer r      what the laying call answers: of each case the word, the number of paths and the name, 0 where it is not STUCK; or the refusal
 -- Assumes nothing.
-use Prim.Native.Nat.{ℕ}
 use Rattle.rules.specs.Refusals.{Answer, given, refused}
 use Rattle.rules.specs.Laying.{Told, FLAT, STUCK, PARTIAL}
-use Rattle.rounds.specs.declared.Word.{Word}
-use Rattle.rounds.specs.declared.Word.the-variants.{Flat as WordFlat, Stuck as WordStuck, Partial as WordPartial}
 use Rattle.lay.specs.declared.Laid.{Laid}
 use Rattle.lay.specs.declared.Laid.the-variants.{Flat, Stuck, Partial, Refused}
 
@@ -15,8 +11,3 @@ laidAnswer (Flat p) = given (record { word = FLAT; paths = p; name = 0 })
 laidAnswer (Stuck p k) = given (record { word = STUCK; paths = p; name = k })
 laidAnswer (Partial p) = given (record { word = PARTIAL; paths = p; name = 0 })
 laidAnswer (Refused x) = refused (x .number) (x .place)
-
-abbrev pub laidOf : Word → ℕ → Laid
-laidOf WordFlat p = Flat p
-laidOf (WordStuck k) p = Stuck p k
-laidOf WordPartial p = Partial p

@@ -1,12 +1,11 @@
 -- What laying a plate asks and leaves, in slices that are just as long as is needed.
 --   Fit v ends play n ..      a plate that can be laid by the channels in play, within the limits, and the three slices that it fills
 --   Sheet v ends play n ..    the three slices hold what laying at most n paths leaves, and the answer says so
---   storySize                 how long the record of what was laid can get, at the largest size that the limits allow
 -- Assumes nothing.
 use mathlib.Core.Path.{_≡_}
 use mathlib.Core.Bool.{Bool}
 use mathlib.Core.List.{List, _++_, map}
-use Prim.Native.Nat.{ℕ, _+_, _-_, _*_, _≤_}
+use Prim.Native.Nat.{ℕ, _-_, _≤_}
 use lib.ListN.{length, replicate}
 use Rattle.rules.specs.Lists.{concat}
 use Rattle.rules.specs.Terms.{missing}
@@ -32,9 +31,3 @@ pub record Sheet (v : ℕ) (ends : List ℕ) (play : List Bool) (n m : ℕ) (tur
   pub ofLands : lands ≡ concat (laying v ends play n .state .lands) ++ replicate (length ends - length (concat (laying v ends play n .state .lands))) missing
   -- m lengths are there to fill
   pub ofLengths : lengths ≡ map length (laying v ends play n .state .lands) ++ replicate (m - length (laying v ends play n .state .lands)) 0
-
-abbrev pub storySize : ℕ
-storySize = 4 * limits1 .mostChannels + limits1 .mostPorts + 4
-
-unfoldable pub noStory : List ℕ
-noStory = replicate storySize 0

@@ -1,21 +1,18 @@
 // The laying call: a plate file is read, and laid into the slices that the caller lends.
 ghost use mathlib.Core.Path.{_≡_};
-ghost use mathlib.Core.Bool.{Bool, true, false, _||_};
-ghost use mathlib.Core.List.{List, _++_, map};
-ghost use Prim.Native.Nat.{ℕ, _+_, _-_, _*_, _/_, _<_, _≤_};
+ghost use mathlib.Core.Bool.{true, false, _||_};
+ghost use mathlib.Core.List.{_++_};
+ghost use Prim.Native.Nat.{_+_, _-_, _*_, _/_, _≤_};
 ghost use lib.Dec.{ltb};
 ghost use lib.ListN.{length, take, drop, replicate};
 ghost use Rattle.rules.specs.Lists.{concat};
 ghost use Rattle.rules.specs.Terms.{missing};
-ghost use Rattle.rules.specs.Files.{limits1};
 ghost use Rattle.rules.specs.Refusals.{given};
-ghost use Rattle.rules.specs.Laying.{laying, wholePlate, layPlate, told, turnsLeft, landsLeft, lengthsLeft};
-ghost use Rattle.reach.specs.Floods.{Tables};
+ghost use Rattle.rules.specs.Laying.{layPlate, told, turnsLeft, landsLeft, lengthsLeft};
 ghost use Rattle.land.specs.Walks.{lands as walked, Walkable};
 ghost use Rattle.rounds.specs.Stories.{saidBy};
-ghost use Rattle.step.specs.Rooms.{Desk};
 ghost use Rattle.lay.specs.Answers.{laidAnswer};
-ghost use Rattle.lay.specs.Sheets.{Fit, Sheet, storySize, noStory};
+ghost use Rattle.lay.specs.Sheets.{Fit, Sheet};
 use plate::Plate;
 use plate::Reading;
 use plate::Refusal;
@@ -28,16 +25,6 @@ pub enum Laid {
     Stuck(usize, usize),
     Partial(usize),
     Refused(Refusal),
-}
-
-// The most numbers in the record of what was laid.
-const STORY: usize = 4 * Plate::MOST_CHANNELS + Plate::MOST_PORTS + 4;
-
-// The record of what was laid, with nothing in it.
-fn no_story() -> [u16; STORY]
-    ensures { λ r. ⌜ (r ≡ noStory) × (storySize ≡ length r) ⌝ }
-{
-    [0u16; STORY]
 }
 
 // The number x as an index.
@@ -117,13 +104,6 @@ fn lay_sheet(
     turns: &mut [u16],
     firsts: &mut [u16],
     lens: &mut [u16],
-    laid: &mut [bool],
-    marks: &mut [bool],
-    queue: &mut [u16],
-    touched: &mut [bool],
-    contacts: &mut [u16],
-    inside: &mut [bool],
-    own: &mut [bool],
     story: &mut [u16],
     lands: &mut [u16],
     lengths: &mut [u16],
@@ -132,128 +112,16 @@ fn lay_sheet(
     requires more { ⌜ length (now more) ≡ length (now ends) ⌝ }
     requires starts { ⌜ length (now play) + 2 ≤ length (now firsts) ⌝ }
     requires sizes { ⌜ length (now play) + 2 ≤ length (now lens) ⌝ }
-    requires desk { ⌜ Desk (length (now first)) (length (now play)) (now laid) (now marks) (now queue) (now touched) (now contacts) (now inside) (now own) ⌝ }
     requires room { ⌜ 4 * length (now play) + length (now first) + 4 ≤ length (now story) ⌝ }
     ensures { λ r. ⌜ Sheet (length (now (first .entry))) (now (ends .entry)) (now (play .entry)) n (length (now (lengths .entry))) (now (turns .exit)) (now (lands .exit)) (now (lengths .exit)) r ⌝ }
 {
-    let end = rounds::lay_out(
-        ends,
-        play,
-        n,
-        first,
-        more,
-        turns,
-        firsts,
-        lens,
-        laid,
-        marks,
-        queue,
-        touched,
-        contacts,
-        inside,
-        own,
-        story,
-    );
+    let end = desk::lay_out(ends, play, n, first, more, turns, firsts, lens, story);
     let count = end.lands;
     write_out(turns, firsts, lens, count, lands, lengths);
     laid_of(end)
 }
 
-// The same, with room made for the marks.
-fn lay_marks(
-    ends: &[u16],
-    play: &[bool],
-    n: usize,
-    first: &mut [u16],
-    more: &mut [u16],
-    turns: &mut [u16],
-    firsts: &mut [u16],
-    lens: &mut [u16],
-    queue: &mut [u16],
-    contacts: &mut [u16],
-    story: &mut [u16],
-    lands: &mut [u16],
-    lengths: &mut [u16],
-) -> Laid
-    requires fit { ⌜ Fit (length (now first)) (now ends) (now play) n (now turns) (now lands) (now lengths) ⌝ }
-    requires more { ⌜ length (now more) ≡ length (now ends) ⌝ }
-    requires starts { ⌜ length (now play) + 2 ≤ length (now firsts) ⌝ }
-    requires sizes { ⌜ length (now play) + 2 ≤ length (now lens) ⌝ }
-    requires queues { ⌜ (length (now queue) ≡ length (now first)) × (length (now contacts) ≡ length (now first)) ⌝ }
-    requires room { ⌜ 4 * length (now play) + length (now first) + 4 ≤ length (now story) ⌝ }
-    ensures { λ r. ⌜ Sheet (length (now (first .entry))) (now (ends .entry)) (now (play .entry)) n (length (now (lengths .entry))) (now (turns .exit)) (now (lands .exit)) (now (lengths .exit)) r ⌝ }
-{
-    let v = first.len();
-    let e = play.len();
-    let mut laid = Plate::no_marks();
-    let mut marks = Plate::no_marks();
-    let mut touched = Plate::no_marks();
-    let mut inside = Plate::no_marks();
-    let mut own = Plate::all_channels();
-    lay_sheet(
-        ends,
-        play,
-        n,
-        first,
-        more,
-        turns,
-        firsts,
-        lens,
-        &mut laid[..v],
-        &mut marks[..v],
-        queue,
-        &mut touched[..v],
-        contacts,
-        &mut inside[..v],
-        &mut own[..e],
-        story,
-        lands,
-        lengths,
-    )
-}
-
-// The same for a plate of v ports, with room made for the neighbours and for lists of ports.
-fn lay_queues(
-    ends: &[u16],
-    play: &[bool],
-    v: usize,
-    n: usize,
-    turns: &mut [u16],
-    firsts: &mut [u16],
-    lens: &mut [u16],
-    story: &mut [u16],
-    lands: &mut [u16],
-    lengths: &mut [u16],
-) -> Laid
-    requires fit { ⌜ Fit v (now ends) (now play) n (now turns) (now lands) (now lengths) ⌝ }
-    requires starts { ⌜ length (now play) + 2 ≤ length (now firsts) ⌝ }
-    requires sizes { ⌜ length (now play) + 2 ≤ length (now lens) ⌝ }
-    requires room { ⌜ 4 * length (now play) + v + 4 ≤ length (now story) ⌝ }
-    ensures { λ r. ⌜ Sheet v (now (ends .entry)) (now (play .entry)) n (length (now (lengths .entry))) (now (turns .exit)) (now (lands .exit)) (now (lengths .exit)) r ⌝ }
-{
-    let darts = ends.len();
-    let mut first = Plate::no_ports();
-    let mut more = Plate::no_ends();
-    let mut queue = Plate::no_ports();
-    let mut contacts = Plate::no_ports();
-    lay_marks(
-        ends,
-        play,
-        n,
-        &mut first[..v],
-        &mut more[..darts],
-        turns,
-        firsts,
-        lens,
-        &mut queue[..v],
-        &mut contacts[..v],
-        story,
-        lands,
-        lengths,
-    )
-}
-
-// The same, with room made for the lands and the story.
+// The same for a plate of v ports, with room made for the neighbours, the lands and the story.
 fn lay_lands(
     ends: &[u16],
     play: &[bool],
@@ -266,14 +134,18 @@ fn lay_lands(
     requires { ⌜ Fit v (now ends) (now play) n (now turns) (now lands) (now lengths) ⌝ }
     ensures { λ r. ⌜ Sheet v (now (ends .entry)) (now (play .entry)) n (length (now (lengths .entry))) (now (turns .exit)) (now (lands .exit)) (now (lengths .exit)) r ⌝ }
 {
+    let darts = ends.len();
+    let mut first = Plate::no_ports();
+    let mut more = Plate::no_ends();
     let mut firsts = Plate::no_ends();
     let mut lens = Plate::no_ends();
-    let mut story = no_story();
-    lay_queues(
+    let mut story = desk::no_story();
+    lay_sheet(
         ends,
         play,
-        v,
         n,
+        &mut first[..v],
+        &mut more[..darts],
         turns,
         &mut firsts,
         &mut lens,

@@ -11,9 +11,6 @@ use plate::Reading;
 // The bytes that the call is to be lent. No listing has more.
 pub const MOST: usize = 65536;
 
-// The number of paths that is no cap.
-const WITHOUT_CAP: usize = 4294967295;
-
 // The number x as an index.
 fn wide(x: u32) -> usize
     ensures { λ r. ⌜ r ≡ x ⌝ }
@@ -46,7 +43,7 @@ fn list_laid(
     let end = desk::lay_out(
         ends,
         play,
-        WITHOUT_CAP,
+        desk::WITHOUT_CAP,
         first,
         more,
         turns,

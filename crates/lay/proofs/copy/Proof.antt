@@ -8,8 +8,6 @@ use lib.ListN.{length, take, drop, length-set}
 use Rattle.plate.proofs.Copies.{copy-on}
 use Rattle.lay.proofs.copy.Statement.{statement}
 use Rattle.lay.proofs.copy.Tie as tie
-use Rattle.lay.proofs.copy.Reads as reads
-use Rattle.lay.proofs.copy.Lts as lts
 
 abbrev Inv-loop : tie.InvT-loop
 Inv-loop from n to₀ i₀ to i = (i ≤ n) × (length to ≡ length to₀) × (to ≡ take i from ++ drop i to₀)

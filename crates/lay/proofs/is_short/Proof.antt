@@ -3,8 +3,6 @@
 use Rattle.lay.proofs.Answering.{short-first, short-second, short-third}
 use Rattle.lay.proofs.is_short.Statement.{statement}
 use Rattle.lay.proofs.is_short.Tie as tie
-use Rattle.lay.proofs.is_short.Reads as reads
-use Rattle.lay.proofs.is_short.Lts as lts
 
 returns : tie.Need-returns
 returns c = short-first _ _ _ (c .if1 .taken)

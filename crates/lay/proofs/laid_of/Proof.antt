@@ -4,8 +4,6 @@ use Rattle.lay.proofs.Answering.{laid-flat, laid-stuck, laid-partial}
 use borrow.Author.Needs.{needs}
 use Rattle.lay.proofs.laid_of.Statement.{statement}
 use Rattle.lay.proofs.laid_of.Tie as tie
-use Rattle.lay.proofs.laid_of.Reads as reads
-use Rattle.lay.proofs.laid_of.Lts as lts
 
 enum-told : tie.Need-enum-told
 enum-told c = search needs

@@ -4,24 +4,15 @@ use mathlib.Core.Path.{_≡_, refl, sym, ap, _∙_}
 use mathlib.Core.Bool.{false}
 use Prim.Native.Nat.{ℕ, _+_, _-_, _*_, _≤_}
 use native.Mathlib.Omega.{arith}
-use lib.ListN.{length, take}
+use lib.ListN.{length}
 use lib.Seq.{length-take-le}
 use Rattle.rules.specs.Refusals.{given}
 use Rattle.rules.specs.Laying.{layPlate, laidOut}
 use Rattle.plate.proofs.Laws.{Known, known, plateIn}
-use Rattle.lay.proofs.Filling.{part-size}
 use Rattle.lay.proofs.Calling.{unread-all, refused-all, long-enough, ports-fewer, short-so, call-short, call-laid, fits, laid-told, laid-turns, laid-lands, laid-lengths}
 use borrow.Author.Needs.{needs}
 use Rattle.lay.proofs.lay.Statement.{statement}
 use Rattle.lay.proofs.lay.Tie as tie
-use Rattle.lay.proofs.lay.Reads as reads
-use Rattle.lay.proofs.lay.Lts as lts
-use Rattle.lay.proofs.is_short.Reads as is-short-reads
-use Rattle.lay.proofs.lay_pairs.Reads as lay-pairs-reads
-use Rattle.lay.proofs.wide.Reads as wide-reads
-use Rattle.plate.proofs.pairs.Reads as pairs-reads
-use Rattle.plate.proofs.read.Reads as read-reads
-use Rattle.plate.proofs.refusal_in.Reads as refusal-in-reads
 
 -- the plate that was read
 plate : (c : tie.After-got) → Known (c .before .before .before .before .before .before .before .args .file .now) (c .got .given .0 .0)

@@ -4,16 +4,11 @@ use mathlib.Core.Path.{_≡_, sym, ap, _∙_}
 use mathlib.Core.Bool.{true}
 use Prim.Native.Nat.{_/_}
 use lib.ListN.{length, take, replicate, length-replicate}
-use Rattle.lay.proofs.Rooming.{pairs-as, play-as, pairs-few, ask-lands, sheet-as}
+use Rattle.desk.proofs.Plans.{pairs-as, play-as}
+use Rattle.lay.proofs.Rooming.{pairs-few, ask-lands, sheet-as}
 use borrow.Author.Needs.{needs}
 use Rattle.lay.proofs.lay_pairs.Statement.{statement}
 use Rattle.lay.proofs.lay_pairs.Tie as tie
-use Rattle.lay.proofs.lay_pairs.Reads as reads
-use Rattle.lay.proofs.lay_pairs.Lts as lts
-use Rattle.lay.proofs.lay_lands.Reads as lay-lands-reads
-use Rattle.plate.proofs.Plate.all_channels.Reads as all-channels-reads
-use Rattle.plate.proofs.Plate.no_ends.Reads as no-ends-reads
-use Rattle.plate.proofs.copy_ends.Reads as copy-ends-reads
 
 -- what is lent of the two arrays
 ends-so : (c : tie.After-ends3) → take (length (c .before .before .before .before .before .before .before .before .before .before .args .pairs .now)) (c .before .before .before .copy-ends .last .1 .0) ≡ c .before .before .before .before .before .before .before .before .before .before .args .pairs .now

@@ -4,17 +4,12 @@ use Rattle.lay.proofs.Laying.{ask-out, sheet-of}
 use borrow.Author.Needs.{needs}
 use Rattle.lay.proofs.lay_sheet.Statement.{statement}
 use Rattle.lay.proofs.lay_sheet.Tie as tie
-use Rattle.lay.proofs.lay_sheet.Reads as reads
-use Rattle.lay.proofs.lay_sheet.Lts as lts
-use Rattle.lay.proofs.laid_of.Reads as laid-of-reads
-use Rattle.lay.proofs.write_out.Reads as write-out-reads
-use Rattle.rounds.proofs.lay_out.Reads as lay-out-reads
 
 lay-out-requires : tie.Need-lay-out-requires
-lay-out-requires c κs = let a = c .before .before .before .before .before .before .before .before .before .before .before .before .before .before .before .before .before .before .before .before .before .before .before .before .before .before .before .before .before .before in (a .pre .0 .plan, (a .pre .1 .0, (a .pre .0 .ofTurns, (a .pre .1 .1 .0, (a .pre .1 .1 .1 .0, (a .pre .1 .1 .1 .1 .0, a .pre .1 .1 .1 .1 .1))))))
+lay-out-requires c κs = let a = c .before .before .before .before .before .before .before .before .before .before .before .before .before .before .before .before .pre in (a .0 .plan, (a .0 .ports, (a .0 .channels, (a .1 .0, (a .0 .ofTurns, (a .1 .1 .0, (a .1 .1 .1 .0, a .1 .1 .1 .1)))))))
 
 write-out-requires : tie.Need-write-out-requires
-write-out-requires c κs = ask-out _ _ _ _ _ _ _ (c .before .before .before .before .before .before .before .before .before .before .before .before .before .before .before .before .before .before .before .before .before .before .before .before .before .before .before .before .before .before .before .before .before .before .before .before .before .before .before .before .before .before .before .before .before .before .before .before .before .before .before .before .before .before .before .before .before .before .before .before .before .before .pre .0) _ _ _ _ _ _ _ (c .before .before .before .before .before .before .before .before .before .before .before .before .before .before .before .before .before .before .before .before .before .before .before .before .before .before .before .before .before .before .before .lay-out .ensures)
+write-out-requires c κs = ask-out _ _ _ _ _ _ _ (c .before .before .before .before .before .before .before .before .before .before .before .before .before .before .before .before .before .before .before .before .before .before .before .before .before .before .before .before .before .before .before .before .before .before .pre .0) _ _ _ _ _ _ _ (c .before .before .before .before .before .before .before .before .before .before .before .before .before .before .before .before .before .lay-out .ensures)
 
 laid-of-requires : tie.Need-laid-of-requires
 laid-of-requires c κs = search needs
@@ -43,29 +38,8 @@ same-length-7 c = search needs
 same-length-8 : tie.Need-same-length-8
 same-length-8 c = search needs
 
-same-length-9 : tie.Need-same-length-9
-same-length-9 c = search needs
-
-same-length-10 : tie.Need-same-length-10
-same-length-10 c = search needs
-
-same-length-11 : tie.Need-same-length-11
-same-length-11 c = search needs
-
-same-length-12 : tie.Need-same-length-12
-same-length-12 c = search needs
-
-same-length-13 : tie.Need-same-length-13
-same-length-13 c = search needs
-
-same-length-14 : tie.Need-same-length-14
-same-length-14 c = search needs
-
-same-length-15 : tie.Need-same-length-15
-same-length-15 c = search needs
-
 returns : tie.Need-returns
-returns c = sheet-of _ _ _ _ _ _ _ (c .before .before .before .before .before .before .before .before .before .before .before .before .before .before .before .before .before .before .before .before .before .before .before .before .before .before .before .before .before .before .before .before .before .before .before .before .before .before .before .before .before .before .before .before .before .before .before .before .before .before .before .before .before .before .before .before .before .before .before .before .before .before .before .before .before .before .before .before .pre .0) _ _ _ _ _ _ _ (c .before .before .before .before .before .before .before .before .before .before .before .before .before .before .before .before .before .before .before .before .before .before .before .before .before .before .before .before .before .before .before .before .before .before .before .before .before .lay-out .ensures) _ _ _ (c .before .before .before .before .before .write-out .ensures .0) (c .before .before .before .before .before .write-out .ensures .1) (c .laid-of .ensures)
+returns c = sheet-of _ _ _ _ _ _ _ (c .before .before .before .before .before .before .before .before .before .before .before .before .before .before .before .before .before .before .before .before .before .before .before .before .before .before .before .before .before .before .before .before .before .before .before .before .before .before .before .before .pre .0) _ _ _ _ _ _ _ (c .before .before .before .before .before .before .before .before .before .before .before .before .before .before .before .before .before .before .before .before .before .before .before .lay-out .ensures) _ _ _ (c .before .before .before .before .before .write-out .ensures .0) (c .before .before .before .before .before .write-out .ensures .1) (c .laid-of .ensures)
 
 pub lay-sheet-spec : {M : Type 1} → statement M
 lay-sheet-spec =
@@ -82,11 +56,4 @@ lay-sheet-spec =
     same-length-6
     same-length-7
     same-length-8
-    same-length-9
-    same-length-10
-    same-length-11
-    same-length-12
-    same-length-13
-    same-length-14
-    same-length-15
     returns)

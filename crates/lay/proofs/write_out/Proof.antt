@@ -1,10 +1,7 @@
 -- `lay::write_out` meets its contract: what is written stands at the front, and the rest is filled.
 -- Assumes nothing.
-use mathlib.Core.Path.{_≡_, sym, ap, _∙_}
-use mathlib.Core.List.{List, _++_}
-use Prim.Native.Nat.{ℕ, _-_}
-use native.Mathlib.Omega.{arith}
-use lib.ListN.{length, take, drop, replicate}
+use mathlib.Core.Path.{_∙_}
+use lib.ListN.{length}
 use Rattle.rules.specs.Lists.{concat}
 use Rattle.rules.specs.Terms.{missing}
 use Rattle.land.specs.Walks.{lands}
@@ -12,11 +9,6 @@ use Rattle.lay.proofs.Filling.{front-filled, front-copied}
 use borrow.Author.Needs.{needs}
 use Rattle.lay.proofs.write_out.Statement.{statement}
 use Rattle.lay.proofs.write_out.Tie as tie
-use Rattle.lay.proofs.write_out.Reads as reads
-use Rattle.lay.proofs.write_out.Lts as lts
-use Rattle.land.proofs.fill.Reads as fill-reads
-use Rattle.land.proofs.write_lands.Reads as write-lands-reads
-use Rattle.lay.proofs.copy.Reads as copy-reads
 
 write-lands-requires : tie.Need-write-lands-requires
 write-lands-requires c κs = search needs

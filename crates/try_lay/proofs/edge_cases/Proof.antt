@@ -1,7 +1,7 @@
 -- `try_lay::edge_cases` is safe and ends: the part of the file that is lent lies within it.
 -- Assumes nothing.
 use native.Mathlib.Omega.{arith}
-use Rattle.lay.proofs.Filling.{part-size}
+use Rattle.desk.proofs.Parts.{part-size}
 use borrow.Author.Needs.{needs}
 use Rattle.try_lay.proofs.edge_cases.Statement.{statement}
 use Rattle.try_lay.proofs.edge_cases.Tie as tie

@@ -2,7 +2,7 @@
 -- Assumes nothing.
 use mathlib.Core.Path.{refl}
 use native.Mathlib.Omega.{arith}
-use Rattle.lay.proofs.Filling.{part-size}
+use Rattle.desk.proofs.Parts.{part-size}
 use borrow.Author.Needs.{needs}
 use Rattle.try_lay.proofs.large.Statement.{statement}
 use Rattle.try_lay.proofs.large.Tie as tie

@@ -5,7 +5,7 @@ use Prim.Native.Nat.{ℕ}
 use native.Mathlib.Omega.{arith}
 use lib.ListN.{replicate}
 use lib.Seq.{length-front}
-use Rattle.lay.proofs.Filling.{part-size}
+use Rattle.desk.proofs.Parts.{part-size}
 use borrow.Author.Needs.{needs}
 use Rattle.try_lay.proofs.small.Statement.{statement}
 use Rattle.try_lay.proofs.small.Tie as tie

@@ -1,3 +1,4 @@
 pub mod Bytes
 pub mod Calling
 pub mod Laws
+pub mod Unique

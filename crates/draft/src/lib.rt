@@ -134,7 +134,8 @@ fn lay_sheet(file: &[u8], p: Plate, out: &mut [u8]) -> Written
     let mut turns = Plate::no_turns();
     let mut lands = Plate::no_turns();
     let mut lengths = Plate::no_turns();
-    let pairs = plate::pairs(file);
+    let end = Plate::PAIRS_AT + darts;
+    let pairs = &file[Plate::PAIRS_AT..end];
     let laid = lay::lay_pairs(
         pairs,
         p.ports,

@@ -3,3 +3,4 @@ pub mod Answering
 pub mod Laying
 pub mod Rooming
 pub mod Calling
+pub mod Unique

@@ -194,9 +194,9 @@ pub fn lay(file: &[u8], n: u32, turns: &mut [u16], lands: &mut [u16], lengths: &
             place: 0,
         });
     }
-    let pairs = plate::pairs(file);
+    let end = Plate::PAIRS_AT + darts;
     lay_pairs(
-        pairs,
+        &file[Plate::PAIRS_AT..end],
         p.ports,
         wide(n),
         &mut turns[..darts],

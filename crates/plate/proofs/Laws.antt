@@ -2,8 +2,8 @@
 --   Known b p                   the code's plate p was read from the file b: its counts, its length, and every test passed
 -- number-.., bytes-numbers: one-byte numbers are a part of the file. length-plate, length-sheet: the lengths 8 + 2E and 8 + 6E. sheet-..: a sheet's V, E and ports stand where a plate file's do.
 -- ends-part: the ports of the pairs are a part of the file. plate-size, sheet-size: the length of a file that passed tests 1 to 9 (laws, `Tested`).
--- test-passed, test-refused: a test of the code that was passed or refused. known, unread: a reading that gave a plate or a refusal. pairs-part, pairs-ends, pairs-length, pairs-none: the pairs of each.
--- length-copied, copied-front, copied-pairs: a copy is as long as what it was copied into, and begins with what was copied. test-unique, reading-unique: what an answer stands for determines it.
+-- test-passed, test-refused: a test of the code that was passed or refused. known, unread: a reading that gave a plate or a refusal. pairs-part, part-is, pairs-ends, pairs-length, pairs-none: the pairs of each.
+-- length-copied, copied-front, copied-pairs: a copy is as long as what it was copied into, and begins with what was copied. refusal-unique, test-unique, reading-unique: what an answer stands for determines it.
 -- Assumes nothing.
 use mathlib.Core.Path.{_≡_, refl, sym, ap, _∙_}
 use mathlib.Core.Bool.{true}
@@ -163,6 +163,12 @@ module _ (b : List ℕ) (p : Plate) (k : Known b p) where
       let n : 8 + 2 * channelsIn plateFile b * 1 - 8 ≡ 2 * p .channels = omega (arith, k .channels) in
       rw (k .answer, n)
 
+  -- as the part of the file that a caller takes itself
+  pub part-is : take (8 + 2 * p .channels - 8) (drop 8 b) ≡ pairsOf b
+  part-is =
+      let z : 8 + 2 * p .channels - 8 ≡ 2 * p .channels = omega arith in
+      ap (λ (n : ℕ). take n (drop 8 b)) z ∙ sym pairs-part
+
   pub pairs-ends : pairsOf b ≡ endsIn plateFile b
   pairs-ends = pairs-part ∙ rw (k .channels) (sym (ends-part b (omega (arith, k .long, k .channels))))
 
@@ -193,15 +199,18 @@ copied-pairs b p k = copied-front (pairsOf b) noEnds (2 * p .channels) (pairs-le
 refusal-same : (x y : Refusal) → x .number ≡ y .number → x .place ≡ y .place → x ≡ y
 refusal-same x y p q = ap (λ (n : ℕ). record { number = n; place = x .place }) p ∙ ap (λ (n : ℕ). record { number = y .number; place = n }) q
 
-plate-same : (x y : Plate) → x .ports ≡ y .ports → x .channels ≡ y .channels → x ≡ y
+pub plate-same : (x y : Plate) → x .ports ≡ y .ports → x .channels ≡ y .channels → x ≡ y
 plate-same x y p q = ap (λ (n : ℕ). record { ports = n; channels = x .channels }) p ∙ ap (λ (n : ℕ). record { ports = y .ports; channels = n }) q
+
+pub refusal-unique : {B : Type 0} (x y : Refusal) → _≡_ {A = Answer B} (refused (x .number) (x .place)) (refused (y .number) (y .place)) → x ≡ y
+refusal-unique x y e = refusal-same x y (cc) (cc)
 
 pub test-unique : (t u : Test) → testOf t ≡ testOf u → t ≡ u
 unfolding testOf
 test-unique Passed Passed e = refl
 test-unique Passed (Refused y) e = absurd (refused-not (y .number) (y .place) tt (sym e))
 test-unique (Refused x) Passed e = absurd (refused-not (x .number) (x .place) tt e)
-test-unique (Refused x) (Refused y) e = ap Refused (refusal-same x y (cc) (cc))
+test-unique (Refused x) (Refused y) e = ap Refused (refusal-unique x y e)
 
 pub reading-unique : (b : List ℕ) (r s : Reading) → readingOf r b ≡ readingOf s b → r ≡ s
 unfolding readingOf
@@ -210,4 +219,4 @@ reading-unique b (Read p) (Read q) e =
     ap Read (plate-same p q (ap (λ (w : RulePlate). w .ports) d) (ap (λ (w : RulePlate). w .channels) d))
 reading-unique b (Read p) (Unread y) e = absurd (refused-not (y .number) (y .place) _ (sym e))
 reading-unique b (Unread x) (Read q) e = absurd (refused-not (x .number) (x .place) _ e)
-reading-unique b (Unread x) (Unread y) e = ap Unread (refusal-same x y (cc) (cc))
+reading-unique b (Unread x) (Unread y) e = ap Unread (refusal-unique x y e)

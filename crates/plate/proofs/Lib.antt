@@ -4,3 +4,4 @@ pub mod Stages
 pub mod Ends
 pub mod Copies
 pub mod Cutting
+pub mod Unique

@@ -4,3 +4,4 @@ pub mod Permuting
 pub mod Accepted
 pub mod Reading
 pub mod Judging
+pub mod Unique

@@ -19,14 +19,13 @@ use Rattle.rules.specs.Laying.{filled}
 use Rattle.rules.specs.Sheets.{Count as RuleCount, Judged, isFlat, judged, judgeSheet, readSheet, counted, dartsRead, lengthsRead}
 use Rattle.laws.proofs.Tests.{not-or}
 use Rattle.laws.proofs.Refusals.{refused-not, given-inj, then-given, refuse-passed, fileTests-passed}
-use Rattle.laws.proofs.RefusalMeaning.{refused-inj}
 use Rattle.plate.specs.declared.Refusal.{Refusal}
 use Rattle.plate.specs.declared.Kind.the-variants.{Sheet as SheetKind}
 use Rattle.plate.specs.declared.Test.{Test}
 use Rattle.plate.specs.declared.Test.the-variants.{Passed, Refused as Stopped}
 use Rattle.plate.specs.Answers.{formatOf, testOf}
 use Rattle.plate.specs.State.{mostDarts}
-use Rattle.plate.proofs.Laws.{test-passed, test-refused}
+use Rattle.plate.proofs.Laws.{test-passed, test-refused, refusal-unique}
 use Rattle.sheet.specs.declared.Count.{Count}
 use Rattle.sheet.specs.declared.Sheet.{Sheet}
 use Rattle.sheet.specs.declared.Sheet.the-variants.{Judged as Counted, Refused}
@@ -141,18 +140,12 @@ count-same c d p q = ap (λ (n : ℕ). count n (c .flat)) p ∙ ap (count (d .la
     count : ℕ → Bool → Count
     count n f = record { lands = n; flat = f }
 
-refusal-same : (x y : Refusal) → x .number ≡ y .number → x .place ≡ y .place → x ≡ y
-refusal-same x y p q = ap (λ (n : ℕ). refusal n (x .place)) p ∙ ap (refusal (y .number)) q
-  where
-    refusal : ℕ → ℕ → Refusal
-    refusal n m = record { number = n; place = m }
-
 pub answer-unique : (r s : Sheet) → answerOf r ≡ answerOf s → r ≡ s
 unfolding answerOf
 answer-unique (Counted c) (Counted d) e = let q = given-inj _ _ e in ap Counted (count-same c d (ap (λ (z : RuleCount). z .lands) q) (ap (λ (z : RuleCount). z .flat) q))
 answer-unique (Counted c) (Refused x) e = absurd (refused-not (x .number) (x .place) _ (sym e))
 answer-unique (Refused x) (Counted c) e = absurd (refused-not (x .number) (x .place) _ e)
-answer-unique (Refused x) (Refused y) e = let q = refused-inj (x .number) (x .place) (y .number) (y .place) e in ap Refused (refusal-same x y (q .0) (q .1))
+answer-unique (Refused x) (Refused y) e = ap Refused (refusal-unique x y e)
 
 -- ---- judging
 

@@ -122,12 +122,6 @@ module _ (b : List ℕ) (p : Plate) (k : Known b p) (pairs : List ℕ) (e : pair
           ∙ ap (λ (n : ℕ). plateOf (p .ports) n (plateIn b .ends)) channels
           ∙ ap (plateOf (p .ports) (length (replicate (length pairs / 2) true))) (sym (same-ends b p k pairs e))
 
--- the pairs, as a part of the file
-pub part-is : (b : List ℕ) (p : Plate) → Known b p → take (8 + 2 * p .channels - 8) (drop 8 b) ≡ pairsOf b
-part-is b p k =
-    let z : 8 + 2 * p .channels - 8 ≡ 2 * p .channels = omega arith in
-    ap (λ (n : ℕ). take n (drop 8 b)) z ∙ sym (pairs-part b p k)
-
 -- ---- the call
 
 pub call-short : (b old : List ℕ) → length old < mostBytes → (0 ≡ listedCount b (length old)) × (old ≡ listedLeft b old)

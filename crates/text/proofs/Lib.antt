@@ -4,3 +4,4 @@ pub mod Bound
 pub mod Handing
 pub mod Calling
 pub mod Enough
+pub mod Unique

@@ -8,7 +8,7 @@ use lib.ListN.{length, take, drop, length-append}
 use lib.Seq.{length-take-le, take-at}
 use Rattle.plate.specs.declared.Reading.the-variants.{Plate as Read}
 use Rattle.plate.specs.State.{mostDarts}
-use Rattle.plate.proofs.Laws.{Known, known, pairs-length}
+use Rattle.plate.proofs.Laws.{Known, known, part-is, pairs-length}
 use Rattle.lay.proofs.Calling.{ports-fewer, fits}
 use Rattle.draft.proofs.Calling.{unstuck-of, stuck-small, stuck-all, flat-all}
 use borrow.Author.Needs.{needs}
@@ -56,8 +56,17 @@ no-turns-requires-2 c κs = search needs
 no-turns-requires-3 : tie.Need-no-turns-requires-3
 no-turns-requires-3 c κs = search needs
 
-pairs-requires : tie.Need-pairs-requires
-pairs-requires c κs = search needs
+add-end : tie.Need-add-end
+add-end c = omega (arith, plate (c .before .before .before .before .before .before .before .before) .most-channels)
+
+sub-pairs : tie.Need-sub-pairs
+sub-pairs c = search needs
+
+part-pairs-start : tie.Need-part-pairs-start
+part-pairs-start c = search needs
+
+part-pairs-end : tie.Need-part-pairs-end
+part-pairs-end c = omega (arith, plate (c .before .before .before .before .before .before .before .before) .long)
 
 array-borrow-prefix-turns : tie.Need-array-borrow-prefix-turns
 array-borrow-prefix-turns c = sized (c .before .before .before .before .before .before .before .before .before) (c .before .before .before .no-turns .result) (c .before .before .before .no-turns .ensures .1) .0
@@ -78,7 +87,7 @@ slice-aggregate-lay-pairs-3 : tie.Need-slice-aggregate-lay-pairs-3
 slice-aggregate-lay-pairs-3 c = sym (length-take-le _ _ (sized (c .before .before .before .before .before .before .before .before .before .before .before .before) (c .before .before .before .before .no-turns3 .result) (c .before .before .before .before .no-turns3 .ensures .1) .1))
 
 lay-pairs-requires : tie.Need-lay-pairs-requires
-lay-pairs-requires c κs = fits _ _ (plate (c .before .before .before .before .before .before .before .before .before .before .before .before)) _ _ (c .before .before .before .pairs .ensures) _ _ _ (length-take-le _ _ (sized (c .before .before .before .before .before .before .before .before .before .before .before .before) (c .before .before .before .before .before .before .no-turns .result) (c .before .before .before .before .before .before .no-turns .ensures .1) .0)) (length-take-le _ _ (sized (c .before .before .before .before .before .before .before .before .before .before .before .before) (c .before .before .before .before .before .no-turns2 .result) (c .before .before .before .before .before .no-turns2 .ensures .1) .0)) (length-take-le _ _ (sized (c .before .before .before .before .before .before .before .before .before .before .before .before) (c .before .before .before .before .no-turns3 .result) (c .before .before .before .before .no-turns3 .ensures .1) .1))
+lay-pairs-requires c κs = fits _ _ (plate (c .before .before .before .before .before .before .before .before .before .before .before .before)) _ _ (part-is _ _ (plate (c .before .before .before .before .before .before .before .before .before .before .before .before))) _ _ _ (length-take-le _ _ (sized (c .before .before .before .before .before .before .before .before .before .before .before .before) (c .before .before .before .before .before .before .no-turns .result) (c .before .before .before .before .before .before .no-turns .ensures .1) .0)) (length-take-le _ _ (sized (c .before .before .before .before .before .before .before .before .before .before .before .before) (c .before .before .before .before .before .no-turns2 .result) (c .before .before .before .before .before .no-turns2 .ensures .1) .0)) (length-take-le _ _ (sized (c .before .before .before .before .before .before .before .before .before .before .before .before) (c .before .before .before .before .no-turns3 .result) (c .before .before .before .before .no-turns3 .ensures .1) .1))
 
 enum-known-laid : tie.Need-enum-known-laid
 enum-known-laid c = search needs
@@ -86,10 +95,10 @@ enum-known-laid c = search needs
 stuck-at-requires : tie.Need-stuck-at-requires
 stuck-at-requires c κs =
     let l = c .before .before .before .before .before .before in
-    omega (arith, stuck-small _ _ (plate (start l)) _ (l .before .before .before .before .pairs .ensures) _ _ _ _ _ (l .lay-pairs .ensures) (most-lent l) _ _ (c .before .laid .given .1))
+    omega (arith, stuck-small _ _ (plate (start l)) _ (part-is _ _ (plate (start l))) _ _ _ _ _ (l .lay-pairs .ensures) (most-lent l) _ _ (c .before .laid .given .1))
 
 returns : tie.Need-returns
-returns c = let l = c .before .before .before .before .before .before .before in stuck-all _ _ (plate (start l)) _ (l .before .before .before .before .pairs .ensures) _ _ _ _ _ (l .lay-pairs .ensures) (most-lent l) (start l .args .out .now) (start l .pre .1) _ _ (c .before .before .laid .given .1) _ (c .stuck-at .ensures)
+returns c = let l = c .before .before .before .before .before .before .before in stuck-all _ _ (plate (start l)) _ (part-is _ _ (plate (start l))) _ _ _ _ _ (l .lay-pairs .ensures) (most-lent l) (start l .args .out .now) (start l .pre .1) _ _ (c .before .before .laid .given .1) _ (c .stuck-at .ensures)
 
 array-share-prefix-turns : tie.Need-array-share-prefix-turns
 array-share-prefix-turns c = simp length-append (omega (arith, turns-lent (c .before .before .before .before)))
@@ -98,13 +107,13 @@ slice-aggregate-put-sheet : tie.Need-slice-aggregate-put-sheet
 slice-aggregate-put-sheet c = let l = c .before .before .before .before .before in sym (ap length (turns-front l) ∙ turns-lent l)
 
 put-sheet-requires : tie.Need-put-sheet-requires
-put-sheet-requires c κs = let l = c .before .before .before .before .before .before in (ap length (l .before .before .before .before .pairs .ensures) ∙ pairs-length _ _ (plate (start l)), (ap length (turns-front l) ∙ turns-lent l, start l .pre .1))
+put-sheet-requires c κs = let l = c .before .before .before .before .before .before in (ap length (part-is _ _ (plate (start l))) ∙ pairs-length _ _ (plate (start l)), (ap length (turns-front l) ∙ turns-lent l, start l .pre .1))
 
 same-length : tie.Need-same-length
 same-length c = search needs
 
 returns-2 : tie.Need-returns-2
-returns-2 c = let l = c .before .before .before .before .before .before .before .before .before in flat-all _ _ (plate (start l)) _ (l .before .before .before .before .pairs .ensures) _ _ _ _ _ (l .lay-pairs .ensures) (most-lent l) (start l .args .out .now) (start l .pre .1) (unstuck-of (l .lay-pairs .result) (c .before .before .before .before .before .match .keys2)) _ _ (turns-front l) (c .before .before .put-sheet .ensures)
+returns-2 c = let l = c .before .before .before .before .before .before .before .before .before in flat-all _ _ (plate (start l)) _ (part-is _ _ (plate (start l))) _ _ _ _ _ (l .lay-pairs .ensures) (most-lent l) (start l .args .out .now) (start l .pre .1) (unstuck-of (l .lay-pairs .result) (c .before .before .before .before .before .match .keys2)) _ _ (turns-front l) (c .before .before .put-sheet .ensures)
 
 pub lay-sheet-spec : {M : Type 1} → statement M
 lay-sheet-spec =
@@ -116,7 +125,10 @@ lay-sheet-spec =
     no-turns-requires
     no-turns-requires-2
     no-turns-requires-3
-    pairs-requires
+    add-end
+    sub-pairs
+    part-pairs-start
+    part-pairs-end
     array-borrow-prefix-turns
     slice-aggregate-lay-pairs
     array-borrow-prefix-lands

@@ -8,7 +8,7 @@ use lib.ListN.{length}
 use lib.Seq.{length-take-le}
 use Rattle.rules.specs.Refusals.{given}
 use Rattle.rules.specs.Laying.{layPlate, laidOut}
-use Rattle.plate.proofs.Laws.{Known, known, plateIn}
+use Rattle.plate.proofs.Laws.{Known, known, plateIn, part-is}
 use Rattle.lay.proofs.Calling.{unread-all, refused-all, long-enough, ports-fewer, short-so, call-short, call-laid, fits, laid-told, laid-turns, laid-lands, laid-lengths}
 use borrow.Author.Needs.{needs}
 use Rattle.lay.proofs.lay.Statement.{statement}
@@ -62,8 +62,17 @@ is-short-requires c κs = search needs
 returns-2 : tie.Need-returns-2
 returns-2 c = let a = c .before .before .before .before .before .before .before .before .before .before .before .before .before in refused-all (layPlate (a .args .file .now) (a .args .n) (length (a .args .turns .now)) (length (a .args .lands .now)) (length (a .args .lengths .now))) _ (call-short _ _ (plate (c .before .before .before .before .before .before)) _ _ _ _ (short-so _ _ (plate (c .before .before .before .before .before .before)) _ _ _ _ _ _ refl refl (c .before .is-short .ensures) ∙ c .if1 .taken)) _ _ _
 
-pairs-requires : tie.Need-pairs-requires
-pairs-requires c κs = search needs
+add-end : tie.Need-add-end
+add-end c = omega (arith, plate (c .before .before .before .before .before .before) .most-channels)
+
+sub-lay-pairs : tie.Need-sub-lay-pairs
+sub-lay-pairs c = search needs
+
+part-lay-pairs-start : tie.Need-part-lay-pairs-start
+part-lay-pairs-start c = search needs
+
+part-lay-pairs-end : tie.Need-part-lay-pairs-end
+part-lay-pairs-end c = omega (arith, plate (c .before .before .before .before .before .before) .long)
 
 wide-requires : tie.Need-wide-requires
 wide-requires c κs = search needs
@@ -87,7 +96,7 @@ slice-aggregate-lay-pairs-3 : tie.Need-slice-aggregate-lay-pairs-3
 slice-aggregate-lay-pairs-3 c = sym (length-take-le _ _ ((enough (c .before .before .before .before .before .before) (c .before .before .before .before .before .if1 .left)) .2))
 
 lay-pairs-requires : tie.Need-lay-pairs-requires
-lay-pairs-requires c κs = fits _ _ (plate (c .before .before .before .before .before .before .before .before .before .before .before)) _ _ (c .before .before .before .before .pairs .ensures) _ _ _ (length-take-le _ _ ((enough (c .before .before .before .before .before .before) (c .before .before .before .before .before .if1 .left)) .0)) (length-take-le _ _ ((enough (c .before .before .before .before .before .before) (c .before .before .before .before .before .if1 .left)) .1)) (length-take-le _ _ ((enough (c .before .before .before .before .before .before) (c .before .before .before .before .before .if1 .left)) .2))
+lay-pairs-requires c κs = fits _ _ (plate (c .before .before .before .before .before .before .before .before .before .before .before)) _ _ (part-is _ _ (plate (c .before .before .before .before .before .before .before .before .before .before .before))) _ _ _ (length-take-le _ _ ((enough (c .before .before .before .before .before .before) (c .before .before .before .before .before .if1 .left)) .0)) (length-take-le _ _ ((enough (c .before .before .before .before .before .before) (c .before .before .before .before .before .if1 .left)) .1)) (length-take-le _ _ ((enough (c .before .before .before .before .before .before) (c .before .before .before .before .before .if1 .left)) .2))
 
 same-length : tie.Need-same-length
 same-length c = search needs
@@ -99,7 +108,7 @@ same-length-3 : tie.Need-same-length-3
 same-length-3 c = search needs
 
 returns-3 : tie.Need-returns-3
-returns-3 c = let K = plate (c .before .before .before .before .before .before .before .before .before .before .before .before .before .before .before .before .before .before) in let a = c .before .before .before .before .before .before .before .before .before .before .before .before .before .before .before .before .before .before .before .before .before .before .before .before .before in let S = c .before .before .before .before .before .before .lay-pairs .ensures in let m = length-take-le _ (a .args .lengths .now) ((enough (c .before .before .before .before .before .before .before .before .before .before .before .before .before) (c .before .before .before .before .before .before .before .before .before .before .before .before .if1 .left)) .2) in let e = laid c in (laid-told _ _ K _ _ (c .before .before .before .before .before .before .before .before .before .before .before .pairs .ensures) _ _ _ _ _ S m _ e, (laid-turns _ _ K _ _ (c .before .before .before .before .before .before .before .before .before .before .before .pairs .ensures) _ _ _ _ _ S m _ e (a .args .turns .now), (laid-lands _ _ K _ _ (c .before .before .before .before .before .before .before .before .before .before .before .pairs .ensures) _ _ _ _ _ S m _ e (a .args .lands .now), laid-lengths _ _ K _ _ (c .before .before .before .before .before .before .before .before .before .before .before .pairs .ensures) _ _ _ _ _ S m _ e (a .args .lengths .now))))
+returns-3 c = let K = plate (c .before .before .before .before .before .before .before .before .before .before .before .before .before .before .before .before .before .before) in let a = c .before .before .before .before .before .before .before .before .before .before .before .before .before .before .before .before .before .before .before .before .before .before .before .before .before in let S = c .before .before .before .before .before .before .lay-pairs .ensures in let m = length-take-le _ (a .args .lengths .now) ((enough (c .before .before .before .before .before .before .before .before .before .before .before .before .before) (c .before .before .before .before .before .before .before .before .before .before .before .before .if1 .left)) .2) in let e = laid c in (laid-told _ _ K _ _ (part-is _ _ K) _ _ _ _ _ S m _ e, (laid-turns _ _ K _ _ (part-is _ _ K) _ _ _ _ _ S m _ e (a .args .turns .now), (laid-lands _ _ K _ _ (part-is _ _ K) _ _ _ _ _ S m _ e (a .args .lands .now), laid-lengths _ _ K _ _ (part-is _ _ K) _ _ _ _ _ S m _ e (a .args .lengths .now))))
 
 pub lay-spec : {M : Type 1} → statement M
 lay-spec =
@@ -115,7 +124,10 @@ lay-spec =
     sub-most
     is-short-requires
     returns-2
-    pairs-requires
+    add-end
+    sub-lay-pairs
+    part-lay-pairs-start
+    part-lay-pairs-end
     wide-requires
     slice-relend-prefix-lay-pairs
     slice-aggregate-lay-pairs

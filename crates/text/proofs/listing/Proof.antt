@@ -4,8 +4,8 @@ use mathlib.Core.Path.{_≡_, sym, ap, _∙_}
 use Prim.Native.Nat.{ℕ}
 use native.Mathlib.Omega.{arith}
 use Rattle.rules.specs.Refusals.{refused, readPlate}
-use Rattle.plate.proofs.Laws.{Known, known, unread}
-use Rattle.text.proofs.Calling.{filed-of, part-is, ask-refused, call-short, call-read, call-refused}
+use Rattle.plate.proofs.Laws.{Known, known, unread, part-is}
+use Rattle.text.proofs.Calling.{filed-of, ask-refused, call-short, call-read, call-refused}
 use borrow.Author.Needs.{needs}
 use Rattle.text.proofs.listing.Statement.{statement}
 use Rattle.text.proofs.listing.Tie as tie

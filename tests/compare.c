@@ -66,6 +66,20 @@ static lent turns, lands, lengths, out;
 
 /* ---- the calls */
 
+/* 15 comes after the file's own refusals */
+static refusal lent_test(refusal r, int too_few) {
+  if (!r.number && too_few) r.number = 15, r.place = 0;
+  return r;
+}
+
+/* a call refused is counted, and its answer compared */
+static int told_refusal(refusal r, const uint64_t answer[4], const char *what) {
+  if (!r.number) return 0;
+  refusals[r.number]++;
+  want(answer[0] == 1 && answer[1] == (uint64_t)r.number && answer[2] == (uint64_t)r.place, what);
+  return 1;
+}
+
 static void compare_lay(const uint8_t *file, size_t n, const plate *p, refusal r, uint32_t cap) {
   static layout l;
   static uint16_t want_turn[2 * MOST_E], want_dart[2 * MOST_E], want_length[MOST_E];
@@ -75,10 +89,7 @@ static void compare_lay(const uint8_t *file, size_t n, const plate *p, refusal r
   size_t a = size_near(darts, &too_few), b = size_near(darts, &too_few), c = size_near(most, &too_few);
   uint16_t *t = lend(&turns, 2 * a), *d = lend(&lands, 2 * b), *m = lend(&lengths, 2 * c);
   try_lay(file, n, cap, t, a, d, b, m, c, answer);
-  if (!r.number && too_few) r.number = 15, r.place = 0;
-  if (r.number) {
-    refusals[r.number]++;
-    want(answer[0] == 1 && answer[1] == (uint64_t)r.number && answer[2] == (uint64_t)r.place, "the refusal of laying");
+  if (told_refusal(lent_test(r, too_few), answer, "the refusal of laying")) {
     holds(&turns, NULL, 0, "turns of a refused laying");
     holds(&lands, NULL, 0, "lands of a refused laying");
     holds(&lengths, NULL, 0, "lengths of a refused laying");
@@ -112,10 +123,7 @@ static void compare_sheet(const uint8_t *file, size_t n) {
   size_t a = size_near(darts, &too_few), b = size_near(most, &too_few);
   uint16_t *d = lend(&lands, 2 * a), *m = lend(&lengths, 2 * b);
   try_read_sheet(file, n, d, a, m, b, answer);
-  if (!r.number && too_few) r.number = 15, r.place = 0;
-  if (r.number) {
-    refusals[r.number]++;
-    want(answer[0] == 1 && answer[1] == (uint64_t)r.number && answer[2] == (uint64_t)r.place, "the refusal of a sheet");
+  if (told_refusal(lent_test(r, too_few), answer, "the refusal of a sheet")) {
     holds(&lands, NULL, 0, "darts of a refused sheet");
     holds(&lengths, NULL, 0, "lengths of a refused sheet");
     return;
@@ -159,7 +167,7 @@ static void compare_write(const uint8_t *file, size_t n, const plate *p, refusal
   size_t a = size_near(need, &too_few);
   uint8_t *o = lend(&out, a);
   uint32_t answer = plate_write_sheet(file, n, o, a);
-  if (!r.number && too_few) r.number = 15, r.place = 0;
+  r = lent_test(r, too_few);
   if (!r.number) {
     second_lay(p, UINT32_MAX, &l);
     if (l.word == STUCK) r.number = 16, r.place = l.name;

@@ -10,13 +10,13 @@ use lib.ListN.{length, take, replicate}
 use Rattle.rules.specs.Files.{limits1}
 use Rattle.rules.specs.Refusals.{Plate as RulePlate, pairsOf}
 use Rattle.rules.specs.Laying.{wholePlate}
+use Rattle.laws.proofs.Lists.{take-replicate}
 use Rattle.laws.proofs.Reaches.{wide-of}
 use Rattle.laws.proofs.Reading.{Accepted, accepted, layable, channel-play}
 use Rattle.plate.specs.declared.Plate.{Plate}
 use Rattle.plate.specs.State.{mostDarts, allChannels, copied}
 use Rattle.plate.proofs.Laws.{plateIn, Known, pairs-ends, copied-front}
 use Rattle.step.specs.Rooms.{Plan}
-use Rattle.desk.proofs.Parts.{part-of-marks}
 
 pub plan-of : (p : RulePlate) → Accepted p → Plan (p .ports) (p .ends) (wholePlate p)
 plan-of p A = record { layable = layable p A; wide = wide-of (p .ports) (p .ends) (wholePlate p) (A .ports .0) (A .uncut); some = (0, channel-play p A); small = omega (arith, A .ports .1) }
@@ -26,7 +26,7 @@ pairs-as pairs old ends e h q = ap (take (length pairs)) q ∙ copied-front pair
 
 pub play-as : (n : ℕ) (play : List Bool) → n ≤ limits1 .mostChannels → play ≡ allChannels → take n play ≡ replicate n true
 unfolding allChannels
-play-as n play h e = ap (take n) e ∙ part-of-marks true n (limits1 .mostChannels) h
+play-as n play h e = ap (take n) e ∙ take-replicate n (limits1 .mostChannels) true h
 
 module _ (b : List ℕ) (p : Plate) (k : Known b p) (pairs : List ℕ) (e : pairs ≡ pairsOf b) where
   pub same-ends : pairs ≡ plateIn b .ends

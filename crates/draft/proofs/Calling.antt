@@ -10,18 +10,18 @@ use mathlib.Core.List.{List, [], _∷_, _++_, append-nil}
 use Prim.Native.Nat.{ℕ, _+_, _-_, _*_, _/_, _≤_, _<_}
 use native.Mathlib.Omega.{arith}
 use borrow.Author.Tests.{lt-ltb}
-use lib.ListN.{length, drop, replicate, length-replicate}
+use lib.ListN.{length, drop, replicate}
 use lib.Seq.{drop-nil}
 use Rattle.rules.specs.Lists.{any}
 use Rattle.rules.specs.Files.{sheetFile, fileLength, fileOf}
 use Rattle.rules.specs.Refusals.{Answer, given, refused, refuse, lentTest, Plate as RulePlate, readPlate, pairsOf}
-use Rattle.rules.specs.Laying.{Told, Outcome, Word as RuleWord, FLAT, STUCK, PARTIAL, withoutCap, wholePlate, laidOut, told, filled, turnsLeft}
+use Rattle.rules.specs.Laying.{Told, Outcome, Word as RuleWord, FLAT, STUCK, PARTIAL, withoutCap, laidOut, told, filled, turnsLeft}
 use Rattle.rules.specs.Sheets.{writeSheet, sheetLeft}
-use Rattle.laws.proofs.Sets.{at-lt}
 use Rattle.laws.proofs.Refusals.{given-inj, refused-not}
 use Rattle.laws.proofs.Reading.{accepted, kept-laidOut}
 use Rattle.laws.proofs.RoundTrip.{length-of, sheet-fits, wild-flat, write-given, write-refused}
-use Rattle.laws.proofs.Demands.{fragments, stuck-name, whole-not-partial}
+use Rattle.laws.proofs.Small.{laid-name}
+use Rattle.laws.proofs.Demands.{whole-not-partial}
 use Rattle.plate.specs.declared.Plate.{Plate}
 use Rattle.plate.specs.declared.Refusal.{Refusal}
 use Rattle.plate.specs.declared.Reading.{Reading}
@@ -30,12 +30,12 @@ use Rattle.plate.specs.Answers.{readingOf, refusalIn}
 use Rattle.plate.proofs.Laws.{plateIn, Known, unread, pairs-ends}
 use types.Run.{OneOf}
 use denote.Enum.Declared.{tagOf}
-use Rattle.lay.proofs.Laid.{the-type}
-use Rattle.lay.specs.declared.Laid.{Laid}
-use Rattle.lay.specs.declared.Laid.the-variants.{Flat, Stuck, Partial, Refused as Unlaid}
-use Rattle.lay.specs.Answers.{laidAnswer}
-use Rattle.lay.specs.Sheets.{Sheet}
-use Rattle.lay.proofs.Calling.{laid-told, laid-turns}
+use Rattle.laid.proofs.Laid.{the-type}
+use Rattle.laid.specs.declared.Laid.{Laid}
+use Rattle.laid.specs.declared.Laid.the-variants.{Flat, Stuck, Partial, Refused as Unlaid}
+use Rattle.laid.specs.Answers.{laidAnswer}
+use Rattle.laid.specs.Sheets.{Sheet}
+use Rattle.laid.proofs.Leaving.{laid-told, laid-turns}
 use Rattle.draft.specs.declared.Written.the-variants.{Done, Refused}
 use Rattle.draft.specs.Answers.{writtenAnswer, done}
 
@@ -100,14 +100,6 @@ module _ (b : List ℕ) (p : Plate) (k : Known b p) where
   abbrev o : Outcome
   o = laidOut P withoutCap
 
-  -- the name of a fragment is a channel
-  stuck-few : o .word ≡ STUCK → o .name < P .channels
-  stuck-few w =
-      let f = stuck-name b P (k .answer) withoutCap w in
-      let F = fragments b P (k .answer) withoutCap in
-      let l = at-lt (wholePlate P) (2 * f .0 .name / 2) (F .channels (f .0) (f .1) (2 * f .0 .name) (F .named (f .0) (f .1)) .0) in
-      omega (arith, l, f .2, length-replicate (P .channels) true)
-
   module _ (pairs : List ℕ) (e : pairs ≡ pairsOf b) (m : ℕ) (t l ns : List ℕ) (r : Laid) (S : Sheet (p .ports) pairs (replicate (length pairs / 2) true) withoutCap m t l ns r) (em : m ≡ p .channels + 2 - p .ports) where
     said : laidAnswer r ≡ given (record { word = o .word; paths = length (o .state .paths); name = o .name })
     unfolding told
@@ -131,7 +123,7 @@ module _ (b : List ℕ) (p : Plate) (k : Known b p) where
     pub stuck-small : (q n : ℕ) → r ≡ Stuck q n → n < 65536
     stuck-small q n d =
         let w = stuck-said q n d in
-        omega (arith, stuck-few (w .0), w .1, k .channels, k .most-channels)
+        omega (arith, laid-name b P (k .answer) withoutCap (w .0), w .1, k .channels, k .most-channels)
 
     stuck-refused : (lent : ℕ) → fileLength sheetFile (P .channels) ≤ lent → (q n : ℕ) → r ≡ Stuck q n → writeSheet b lent ≡ refused 16 n
     stuck-refused lent enough q n d =

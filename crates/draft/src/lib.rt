@@ -12,8 +12,7 @@ ghost use Rattle.plate.specs.declared.Reading.the-variants.{Plate as Read};
 ghost use Rattle.plate.specs.Answers.{readingOf};
 ghost use Rattle.draft.specs.Answers.{writtenAnswer, done};
 ghost use Rattle.draft.specs.Parts.{headOf};
-use lay::Laid;
-use plate::Kind;
+use laid::Laid;
 use plate::Plate;
 use plate::Reading;
 use plate::Refusal;
@@ -136,7 +135,7 @@ fn lay_sheet(file: &[u8], p: Plate, out: &mut [u8]) -> Written
     let mut lengths = Plate::no_turns();
     let end = Plate::PAIRS_AT + darts;
     let pairs = &file[Plate::PAIRS_AT..end];
-    let laid = lay::lay_pairs(
+    let laid = laid::lay_pairs(
         pairs,
         p.ports,
         desk::WITHOUT_CAP,
@@ -160,7 +159,8 @@ pub fn write_sheet(file: &[u8], out: &mut [u8]) -> Written
     let Reading::Plate(p) = got else {
         return Written::Refused(plate::refusal_in(got));
     };
-    let needed = plate::file_length(Kind::Sheet, p.channels);
+    let turns_at = Plate::PAIRS_AT + 2 * p.channels;
+    let needed = turns_at + 2 * p.channels * Plate::TURN_BYTES;
     if out.len() < needed {
         return Written::Refused(Refusal {
             number: 15,

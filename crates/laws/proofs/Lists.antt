@@ -1,7 +1,7 @@
 -- Laws of the list definitions (rules, "Lists"): what a test over a list says of the elements, and what a search finds.
 --   All P l         P holds of every element of l
 -- any-T, T-any, not-any, all-T, not-all, keep-T, T-keep: a test over a list of numbers against the numbers in it. count-from, from-lt, from-once: i, i + 1, .. are what they say.
--- all-.., keep-all, keep-none: what holds of every element. two: of two numbers in a list, to its first two. seek-first, seek-found, seek-finds: a search gives the lowest number that passes.
+-- all-.., keep-all, keep-none: what holds of every element. two: of two numbers in a list, to its first two. seek-first, seek-found, seek-finds: a search gives the lowest number that passes. part-length, take-replicate: the first part of a list that has as many.
 -- Assumes nothing.
 use mathlib.Core.Path.{subst, sym, ap, _≡_, refl, _∙_}
 use mathlib.Core.Logic.{⊎-elim, _≢_}
@@ -12,7 +12,8 @@ use native.Mathlib.Nat.{not-suc-le-zero, suc-ne-zero}
 use native.Mathlib.Decide.{decLt}
 use native.Mathlib.Omega.{arith}
 use lib.Dec.{T, not-T, T-not}
-use lib.ListN.{length, getD}
+use lib.ListN.{length, getD, take, replicate}
+use lib.Seq.{length-take-le}
 use Rattle.rules.specs.Lists.{from, any, all, keep, seek}
 use Rattle.laws.proofs.Tests.{cond-cases, T-is, and-T, T-and, or-T, T-or₁, T-or₂, not-either}
 use Rattle.laws.proofs.Counts.{is, is-self, is-not, is-cases, is-apart, count}
@@ -210,3 +211,13 @@ seek-finds f i n k a b t = go (decLt (seek f i n) (i + n))
     go : Dec (seek f i n < i + n) → T (f (seek f i n))
     go (yes h) = seek-found f i n h
     go (no h) = absurd (T-not (f k) (seek-none f i n (omega arith) k a b) t)
+
+-- ---- the first part of a list
+
+pub part-length : {A : Type 0} (n m : ℕ) (l : List A) → m ≡ length l → n ≤ m → n ≡ length (take n l)
+part-length n m l e h = sym (length-take-le n l (omega arith))
+
+pub take-replicate : {A : Type 0} (n m : ℕ) (a : A) → n ≤ m → take n (replicate m a) ≡ replicate n a
+take-replicate zero m a h = refl
+take-replicate (suc n) zero a h = absurd (not-suc-le-zero h)
+take-replicate {A} (suc n) (suc m) a h = ap (λ (l : List A). a ∷ l) (take-replicate n m a (omega arith))

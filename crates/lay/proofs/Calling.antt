@@ -1,38 +1,30 @@
 -- The laying call (rules, `layPlate`) by what reading gave: a refusal, slices too short, or a plate that is laid.
 --   shortOf p t l s       one of t turns, l land darts and s lengths is fewer than the plate p needs
--- call-refused: a file that is refused. call-short: slices too short. call-laid: a plate that is laid. fits: the plate of a file that was read can be laid. laid-..: what is then left.
+-- call-refused: a file that is refused. call-short: slices too short. call-laid: a plate that is laid. short-..: the test of the lent slices, by the test that decides.
 -- Assumes nothing.
-use mathlib.Core.Path.{_≡_, refl, sym, ap, _∙_, subst}
+use mathlib.Core.Path.{_≡_, refl, sym, ap, _∙_}
 use mathlib.Core.Bool.{Bool, true, false, cond, _||_}
-use mathlib.Core.List.{List, _++_, map, append-nil}
-use Prim.Native.Nat.{ℕ, _+_, _-_, _*_, _/_, _≤_}
+use mathlib.Core.List.{List}
+use Prim.Native.Nat.{ℕ, _+_, _-_, _*_, _<_, _≤_}
 use native.Mathlib.Omega.{arith}
 use lib.Dec.{ltb}
-use borrow.Author.Tests.{ltb-false}
-use lib.ListN.{length, drop, replicate, length-replicate, length-map}
-use Rattle.rules.specs.Lists.{any, concat}
-use Rattle.rules.specs.Terms.{missing}
-use Rattle.rules.specs.Refusals.{Answer, given, refused, passed, _>>=_, _>>_, refuse, lentTest, Plate as RulePlate, readPlate, pairsOf}
-use Rattle.rules.specs.Laying.{Laid as Laying, laying, wholePlate, laidOut, landsOfFlat, layPlate, told, filled, turnsLeft, landsLeft, lengthsLeft}
-use Rattle.laws.proofs.Reading.{Accepted, accepted, kept-laidOut}
-use Rattle.laws.proofs.Counting.{paths-most, lands-most}
+use borrow.Author.Tests.{lt-ltb, le-ltb, ltb-false}
+use lib.ListN.{length}
+use Rattle.rules.specs.Lists.{any}
+use Rattle.rules.specs.Refusals.{Answer, given, refused, passed, _>>=_, _>>_, refuse, lentTest, Plate as RulePlate, readPlate}
+use Rattle.rules.specs.Laying.{Laid as Laying, landsOfFlat, layPlate, told, turnsLeft, landsLeft, lengthsLeft}
 use Rattle.plate.specs.declared.Plate.{Plate}
 use Rattle.plate.specs.declared.Refusal.{Refusal}
 use Rattle.plate.specs.declared.Reading.{Reading}
 use Rattle.plate.specs.declared.Reading.the-variants.{Refused as Unread}
 use Rattle.plate.specs.Answers.{readingOf, refusalIn}
 use Rattle.plate.proofs.Laws.{plateIn, Known, unread}
-use Rattle.desk.proofs.Plans.{plan-of, same-ends, same-play}
-use Rattle.lay.specs.declared.Laid.{Laid}
-use Rattle.lay.specs.declared.Laid.the-variants.{Refused}
-use Rattle.lay.specs.Answers.{laidAnswer}
-use Rattle.lay.specs.Sheets.{Fit, Sheet}
+use Rattle.laid.specs.declared.Laid.the-variants.{Refused}
+use Rattle.laid.specs.Answers.{laidAnswer}
+use Rattle.laid.proofs.Leaving.{laidOutOf, flat-lands}
 
 abbrev pub shortOf : RulePlate → ℕ → ℕ → ℕ → Bool
 shortOf p t l s = ltb t (2 * p .channels) || (ltb l (2 * p .channels) || (ltb s (landsOfFlat p) || false))
-
-abbrev laidOutOf : RulePlate → ℕ → Laying
-laidOutOf p n = record { plate = p; outcome = laidOut p n }
 
 -- what the call is of a reading
 afterReading : (b : List ℕ) (n t l s : ℕ) (a : Answer RulePlate) → readPlate b ≡ a → layPlate b n t l s ≡ (a >>= λ p. cond (shortOf p t l s) (refused 15 0) passed >> given (laidOutOf p n))
@@ -91,19 +83,9 @@ long-enough f d m t l s e h =
 
 -- ---- a plate that was read
 
-flat-lands : (p : RulePlate) → landsOfFlat p ≡ p .channels + 2 - p .ports
-unfolding landsOfFlat
-flat-lands p = refl
-
 module _ (b : List ℕ) (p : Plate) (k : Known b p) where
   abbrev P : RulePlate
   P = plateIn b
-
-  A : Accepted P
-  A = accepted b P (k .answer)
-
-  pub ports-fewer : p .ports ≤ p .channels
-  ports-fewer = omega (arith, paths-most b P (k .answer) 0, k .ports, k .channels)
 
   pub short-so : (f : Bool) (d m t l s : ℕ) → d ≡ 2 * p .channels → m ≡ p .channels + 2 - p .ports → f ≡ (ltb t d || (ltb l d || (ltb s m || false))) → shortOf P t l s ≡ f
   short-so f d m t l s ed em e =
@@ -117,53 +99,17 @@ module _ (b : List ℕ) (p : Plate) (k : Known b p) where
   pub call-laid : (n t l s : ℕ) → shortOf P t l s ≡ false → layPlate b n t l s ≡ given (laidOutOf P n)
   call-laid n t l s h = call-given b n t l s P false (k .answer) h
 
-  module _ (n : ℕ) (pairs : List ℕ) (e : pairs ≡ pairsOf b) where
-    laid-is : laying (P .ports) (P .ends) (wholePlate P) n ≡ laidOut P n
-    unfolding laidOut
-    laid-is = refl
+-- ---- the test of the code
 
-    pub fits : (t l ns : List ℕ) → length t ≡ 2 * p .channels → length l ≡ 2 * p .channels → length ns ≡ p .channels + 2 - p .ports
-        → Fit (p .ports) pairs (replicate (length pairs / 2) true) n t l ns
-    fits t l ns a c m =
-        subst (λ (w : List Bool). Fit (p .ports) pairs w n t l ns) (sym (same-play b p k pairs e))
-        (subst (λ (w : List ℕ). Fit (p .ports) w (wholePlate P) n t l ns) (sym (same-ends b p k pairs e))
-        (subst (λ (w : ℕ). Fit w (P .ends) (wholePlate P) n t l ns) (sym (k .ports))
-        (record {
-          plan = plan-of P A;
-          ports = A .ports .1;
-          channels = omega (arith, length-replicate (P .channels) true, A .channels .1);
-          ofTurns = omega (arith, a, A .size, k .channels);
-          ofLands = omega (arith, c, A .size, k .channels);
-          ofLengths = subst (λ (o : ℕ). o ≤ length ns) (ap (λ (o : _). length (o .state .lands)) (sym laid-is)) (omega (arith, lands-most b P (k .answer) n, flat-lands P, m, k .channels, k .ports));
-        })))
+or-false : (b : Bool) → b || false ≡ b
+or-false true = refl
+or-false false = refl
 
-    module _ (m : ℕ) (t l ns : List ℕ) (r : Laid) (S : Sheet (p .ports) pairs (replicate (length pairs / 2) true) n m t l ns r) (em : m ≡ p .channels + 2 - p .ports) (a : Answer Laying) (ea : a ≡ given (laidOutOf P n)) where
-      S′ : Sheet (P .ports) (P .ends) (wholePlate P) n m t l ns r
-      S′ =
-          subst (λ (w : ℕ). Sheet w (P .ends) (wholePlate P) n m t l ns r) (k .ports)
-          (subst (λ (w : List ℕ). Sheet (p .ports) w (wholePlate P) n m t l ns r) (same-ends b p k pairs e)
-          (subst (λ (w : List Bool). Sheet (p .ports) pairs w n m t l ns r) (same-play b p k pairs e) S))
+pub short-first : (t d : ℕ) (b : Bool) → t < d → true ≡ (ltb t d || b)
+short-first t d b h = rw (lt-ltb t d h) refl
 
-      pub laid-told : laidAnswer r ≡ told a
-      unfolding told laidOut
-      laid-told = S′ .said ∙ sym (ap told ea)
+pub short-second : (t l d : ℕ) (b : Bool) → d ≤ t → l < d → true ≡ (ltb t d || (ltb l d || b))
+short-second t l d b h g = rw (le-ltb t d h, lt-ltb l d g) refl
 
-      pub laid-turns : (old : List ℕ) → t ++ drop (2 * p .channels) old ≡ turnsLeft a old
-      unfolding turnsLeft filled laidOut
-      laid-turns old =
-          let z : 2 * P .channels - length (laidOut P n .state .turns) ≡ 0 = omega (arith, kept-laidOut b P (k .answer) n .long, A .size) in
-          ap (λ (w : List ℕ). w ++ drop (2 * p .channels) old) (S′ .ofTurns ∙ sym (append-nil (laidOut P n .state .turns)) ∙ ap (λ (x : ℕ). laidOut P n .state .turns ++ replicate x missing) (sym z))
-          ∙ ap (λ (x : ℕ). (laidOut P n .state .turns ++ replicate (2 * P .channels - length (laidOut P n .state .turns)) missing) ++ drop (2 * x) old) (k .channels) ∙ sym (ap (λ (x : Answer Laying). turnsLeft x old) ea)
-
-      pub laid-lands : (old : List ℕ) → l ++ drop (2 * p .channels) old ≡ landsLeft a old
-      unfolding landsLeft filled laidOut
-      laid-lands old =
-          ap (λ (w : List ℕ). w ++ drop (2 * p .channels) old) (S′ .ofLands ∙ ap (λ (x : ℕ). concat (laidOut P n .state .lands) ++ replicate (x - length (concat (laidOut P n .state .lands))) missing) (A .size))
-          ∙ ap (λ (x : ℕ). (concat (laidOut P n .state .lands) ++ replicate (2 * P .channels - length (concat (laidOut P n .state .lands))) missing) ++ drop (2 * x) old) (k .channels) ∙ sym (ap (λ (x : Answer Laying). landsLeft x old) ea)
-
-      pub laid-lengths : (old : List ℕ) → ns ++ drop (p .channels + 2 - p .ports) old ≡ lengthsLeft a old
-      unfolding lengthsLeft filled laidOut
-      laid-lengths old =
-          let z : m ≡ landsOfFlat P = em ∙ omega (arith, k .channels, k .ports) ∙ sym (flat-lands P) in
-          ap (λ (x : ℕ). ns ++ drop x old) (sym em) ∙ ap (λ (w : List ℕ). w ++ drop m old) (S′ .ofLengths ∙ ap (λ (x : ℕ). map length (laidOut P n .state .lands) ++ replicate (m - x) 0) (sym (length-map (laidOut P n .state .lands) length)))
-          ∙ ap (λ (x : ℕ). (map length (laidOut P n .state .lands) ++ replicate (x - length (map length (laidOut P n .state .lands))) 0) ++ drop x old) z ∙ sym (ap (λ (x : Answer Laying). lengthsLeft x old) ea)
+pub short-third : (t l d : ℕ) (b : Bool) → d ≤ t → d ≤ l → b ≡ (ltb t d || (ltb l d || (b || false)))
+short-third t l d b h g = rw (le-ltb t d h, le-ltb l d g) (sym (or-false b))

@@ -1,6 +1,2 @@
-pub mod Filling
-pub mod Answering
-pub mod Laying
-pub mod Rooming
 pub mod Calling
 pub mod Unique

@@ -18,6 +18,7 @@ use Rattle.rules.specs.Lists.{seek, at}
 use Rattle.rules.specs.Files.{limits1}
 use Rattle.rules.specs.Ways.{only, reached}
 use Rattle.rules.specs.Refusals.{apart, cuts, pieceTests}
+use Rattle.laws.proofs.Lists.{take-replicate}
 use Rattle.reach.specs.Neighbours.{Ports, firstDarts, moreDarts}
 use Rattle.reach.specs.Floods.{joined, around, Sized, Tables}
 use Rattle.reach.proofs.Seeking.{length-map-from}
@@ -128,15 +129,6 @@ room-lent ends play first more marks queue r f m d e = record {
 pub room-asks : (ends : List ℕ) (play : List Bool) (first more : List ℕ) (marks : List Bool) (queue : List ℕ) → Room ends play first more marks queue
     → Ports (length first) ends × ((length more ≡ length ends) × (length ends < 65536))
 room-asks ends play first more marks queue r = ((λ d h. rw (r .firsts) (r .sized .ports d h)), (r .mores, r .darts))
-
--- a part of an array that has as many
-pub part-length : {A : Type 0} (n m : ℕ) (l : List A) → m ≡ length l → n ≤ m → n ≡ length (take n l)
-part-length n m l e h = sym (length-take-le n l (omega arith))
-
-take-replicate : {A : Type 0} (n m : ℕ) (a : A) → n ≤ m → take n (replicate m a) ≡ replicate n a
-take-replicate zero m a h = refl
-take-replicate (suc n) zero a h = absurd (not-suc-le-zero h)
-take-replicate {A} (suc n) (suc m) a h = ap (λ (l : List A). a ∷ l) (take-replicate n m a (omega arith))
 
 module _ (v : ℕ) (ends : List ℕ) (w : Whole v ends) (play marks : List Bool) where
   pub whole-room : (first more queue : List ℕ) → limits1 .mostChannels ≡ length play → limits1 .mostPorts ≡ length first → mostDarts ≡ length more → limits1 .mostPorts ≡ length marks → limits1 .mostPorts ≡ length queue

@@ -16,8 +16,6 @@ use Rattle.plate.specs.declared.Reading.{Reading}
 use Rattle.plate.proofs.Laws.{plate-same, test-unique, reading-unique}
 use Rattle.plate.proofs.counts.Kinds as counts-kinds
 use Rattle.plate.proofs.counts.Reads as counts-reads
-use Rattle.plate.proofs.file_length.Kinds as file-length-kinds
-use Rattle.plate.proofs.file_length.Reads as file-length-reads
 use Rattle.plate.proofs.copy_ends.Kinds as copy-ends-kinds
 use Rattle.plate.proofs.copy_ends.Reads as copy-ends-reads
 use Rattle.plate.proofs.file_tests.Kinds as file-tests-kinds
@@ -34,9 +32,6 @@ OneResult n ps r B Q seen = (κs : Lfts n) (a : Dens κs ps) (z w : resT r κs .
 
 pub counts-unique : OneResult 1 counts-kinds.ps counts-kinds.r Plate counts-reads.Post (λ κs r x. r)
 counts-unique κs a r s x y p q = plate-same r s (p .0 ∙ sym (q .0)) (p .1 ∙ sym (q .1))
-
-pub file-length-unique : OneResult 0 file-length-kinds.ps file-length-kinds.r ℕ file-length-reads.Post (λ κs r x. r)
-file-length-unique κs a r s x y p q = p ∙ sym q
 
 pub copy-ends-unique : OneResult 2 copy-ends-kinds.ps copy-ends-kinds.r (List ℕ) copy-ends-reads.Post (λ κs r x. x .1 .0 .now)
 copy-ends-unique κs a r s x y p q = p ∙ sym q

@@ -227,7 +227,7 @@ fn is_outside(low: usize, high: usize, n: usize) -> bool
 }
 
 // The length of a file of this kind with so many channels.
-pub fn file_length(kind: Kind, channels: usize) -> usize
+fn file_length(kind: Kind, channels: usize) -> usize
     requires { ⌜ channels < 65536 ⌝ }
     ensures { λ r. ⌜ r ≡ fileLength (formatOf kind) channels ⌝ }
 {

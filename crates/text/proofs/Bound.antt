@@ -1,89 +1,31 @@
 -- No listing has more than `mostBytes` bytes, whatever the file.
---   Near a      the answer a is no refusal, or one whose number and place are small
--- near-read: reading refuses with small numbers. laid-few: the listing of a plate that is read. listing-most: the listing of any file.
+-- laid-few: the listing of a plate that is read. listing-most: the listing of any file.
 -- The cycle's and paths' darts together are at most E, the lands' and the ports' darts at most 2E each, the paths and lands at most E, and every number printed is below 100,000.
 -- Assumes nothing.
 use mathlib.Core.Path.{_≡_, refl}
-use mathlib.Core.Bool.{Bool, true, false}
 use mathlib.Core.List.{List, [], _∷_, _++_, map}
 use Prim.Native.Nat.{ℕ, zero, suc, _+_, _*_, _<_, _≤_}
 use native.Mathlib.Omega.{arith}
 use native.Mathlib.Decide.{decLt}
-use lib.Dec.{eqb, ltb, ltb→lt}
-use lib.ListN.{length, getD, length-append, length-map, replicate, List·getD-eq-default}
-use Rattle.rules.specs.Lists.{from, seek, concat, text}
+use lib.Dec.{eqb}
+use lib.ListN.{length, getD, length-append, length-map, List·getD-eq-default}
+use Rattle.rules.specs.Lists.{from, concat, text}
 use Rattle.rules.specs.Terms.{leaves, dartsAt, laid, ring}
-use Rattle.rules.specs.Files.{plateFile, portsIn, channelsIn, endsIn}
-use Rattle.rules.specs.Refusals.{Answer, given, refused, Test, _>>_, passed, refuse, refuseAt, placeOfChannel, itself, short, otherMark, otherVersion, markTests, outside, otherLength, countTests, strange, loop, metEarlier, pairTests, fileTests, apart, cuts, pieceTests, Plate, readPlate}
+use Rattle.rules.specs.Refusals.{Answer, given, refused, Plate, readPlate}
 use Rattle.rules.specs.Laying.{Word, FLAT, STUCK, PARTIAL, Outcome, withoutCap, wholePlate, laidOut, firstCycle, landsOfFlat}
 use Rattle.rules.specs.Listing.{fields, line, headLine, cycleLine, pathLine, landLines, portLine, wordLine, sheetLines, laidLines, listingOf, listing}
-use Rattle.laws.proofs.Tests.{cond-cases}
 use Rattle.laws.proofs.Counts.{T-flag, count, count-head}
 use Rattle.laws.proofs.Lists.{all-weaken}
 use Rattle.laws.proofs.Links.{laid-lt}
-use Rattle.laws.proofs.Refusals.{countTests-passed, fileTests-passed}
 use Rattle.laws.proofs.Reading.{Accepted, accepted, kept-laidOut}
+use Rattle.laws.proofs.Small.{Small, small-read, laid-name}
 use Rattle.laws.proofs.Turns.{turn-laid}
 use Rattle.laws.proofs.Counting.{length-concat, paths-most, lands-most, darts-most, flat-laid, rows-lt}
 use Rattle.land.specs.Walks.{Below, BelowAll}
 use Rattle.land.proofs.Laws.{below-all}
 use Rattle.text.specs.Calls.{mostBytes}
-use Rattle.text.proofs.Laid.{dartsAll, Drawn, lined-laid, laid-name}
+use Rattle.text.proofs.Laid.{dartsAll, Drawn, lined-laid}
 use Rattle.text.proofs.Lengths.{most, below-map, fields-few, line-few, leaves-small, paths-few, lands-few, ports-few, degrees-few}
-
--- ---- a refusal
-
-abbrev Near : {A : Type 0} → Answer A → Type 0
-Near (given a) = Unit {0}
-Near (refused n q) = (n < most) × (q < most)
-
-near-then : {A : Type 0} (t : Test) (a : Answer A) → Near t → (t ≡ passed → Near a) → Near (t >> a)
-near-then (given u) a h k = k refl
-near-then (refused n q) a h k = h
-
-near-refuse : (n : ℕ) (bad : Bool) → n < most → Near (refuse n bad)
-unfolding refuse
-near-refuse n true h = (h, omega arith)
-near-refuse n false h = tt
-
-near-at : (n : ℕ) (bad : ℕ → Bool) (m : ℕ) → n < most → m ≤ most → Near (refuseAt n (λ k. k) bad m)
-unfolding refuseAt
-near-at n bad m h l = cond-cases (Near {A = Unit {0}}) (ltb (seek bad 0 m) m) (λ t. (h, omega (arith, ltb→lt (seek bad 0 m) m t))) (λ t. tt)
-
-near-mark : (b : List ℕ) → Near (markTests plateFile b)
-unfolding markTests
-near-mark b =
-    near-then (refuse 1 (short plateFile b)) _ (near-refuse 1 (short plateFile b) (omega arith))
-    (λ e. near-then (refuse 2 (otherMark plateFile b)) _ (near-refuse 2 (otherMark plateFile b) (omega arith)) (λ f. near-refuse 3 (otherVersion plateFile b) (omega arith)))
-
-near-count : (b : List ℕ) → Near (countTests plateFile b)
-unfolding countTests
-near-count b =
-    near-then (refuse 4 (outside 3 200 (portsIn plateFile b))) _ (near-refuse 4 (outside 3 200 (portsIn plateFile b)) (omega arith))
-    (λ e. near-then (refuse 5 (outside 3 600 (channelsIn plateFile b))) _ (near-refuse 5 (outside 3 600 (channelsIn plateFile b)) (omega arith)) (λ f. near-refuse 6 (otherLength plateFile b) (omega arith)))
-
-near-pair : (v : ℕ) (ends : List ℕ) (e : ℕ) → e ≤ most → Near (pairTests v ends e)
-unfolding pairTests
-near-pair v ends e h =
-    near-then (refuseAt 7 placeOfChannel (strange v ends) e) _ (near-at 7 (strange v ends) e (omega arith) h)
-    (λ f. near-then (refuseAt 8 placeOfChannel (loop ends) e) _ (near-at 8 (loop ends) e (omega arith) h) (λ g. near-at 9 (metEarlier ends) e (omega arith) h))
-
-near-file : (b : List ℕ) → Near (fileTests plateFile b)
-unfolding fileTests
-near-file b =
-    near-then (markTests plateFile b) _ (near-mark b)
-    (λ e. near-then (countTests plateFile b) _ (near-count b) (λ f. let z = countTests-passed plateFile b f in near-pair (portsIn plateFile b) (endsIn plateFile b) (channelsIn plateFile b) (omega (arith, z .channels .1))))
-
-near-piece : (v : ℕ) (ends : List ℕ) (play : List Bool) → v ≤ most → Near (pieceTests v ends play)
-unfolding pieceTests
-near-piece v ends play h = near-then (refuseAt 10 itself (apart v ends play) v) _ (near-at 10 (apart v ends play) v (omega arith) h) (λ e. near-at 11 (cuts v ends play) v (omega arith) h)
-
-near-read : (b : List ℕ) → Near (readPlate b)
-unfolding readPlate
-near-read b =
-    near-then (fileTests plateFile b) _ (near-file b)
-    (λ e. let z = fileTests-passed plateFile b e in
-    near-then (pieceTests (portsIn plateFile b) (endsIn plateFile b) (replicate (channelsIn plateFile b) true)) _ (near-piece (portsIn plateFile b) (endsIn plateFile b) (replicate (channelsIn plateFile b) true) (omega (arith, z .sized .ports .1))) (λ f. tt))
 
 -- ---- a plate that is read
 
@@ -133,15 +75,15 @@ module _ (b : List ℕ) (p : Plate) (h : readPlate b ≡ given p) (n : ℕ) wher
 
   word-few : length (wordLine o) ≤ 20
   unfolding wordLine text
-  word-few = go (o .word)
+  word-few = go (o .word) refl
     where
       few : length (o .state .paths) < most
       few = omega (arith, paths-most b p h n, A .channels .1)
 
-      go : (w : Word) → length {A = ℕ} (elim w as (λ x. List ℕ) [ FLAT ↦ line "FLAT" (length (o .state .paths) ∷ []) | STUCK ↦ line "STUCK" (length (o .state .paths) ∷ o .name ∷ []) | PARTIAL ↦ line "PARTIAL" (length (o .state .paths) ∷ []) ]) ≤ 20
-      go FLAT = omega (arith, line-few "FLAT" (length (o .state .paths) ∷ []) (few, tt))
-      go STUCK = omega (arith, line-few "STUCK" (length (o .state .paths) ∷ o .name ∷ []) (few, (omega (arith, laid-name p n, A .channels .1), tt)))
-      go PARTIAL = omega (arith, line-few "PARTIAL" (length (o .state .paths) ∷ []) (few, tt))
+      go : (w : Word) → o .word ≡ w → length {A = ℕ} (elim w as (λ x. List ℕ) [ FLAT ↦ line "FLAT" (length (o .state .paths) ∷ []) | STUCK ↦ line "STUCK" (length (o .state .paths) ∷ o .name ∷ []) | PARTIAL ↦ line "PARTIAL" (length (o .state .paths) ∷ []) ]) ≤ 20
+      go FLAT e = omega (arith, line-few "FLAT" (length (o .state .paths) ∷ []) (few, tt))
+      go STUCK e = omega (arith, line-few "STUCK" (length (o .state .paths) ∷ o .name ∷ []) (few, (omega (arith, laid-name b p h n e, A .channels .1), tt)))
+      go PARTIAL e = omega (arith, line-few "PARTIAL" (length (o .state .paths) ∷ []) (few, tt))
 
   -- ---- the lands and ports of a plate that is FLAT
 
@@ -210,8 +152,8 @@ module _ (b : List ℕ) (p : Plate) (h : readPlate b ≡ given p) (n : ℕ) wher
 
 pub listing-most : (b : List ℕ) → length (listing b) ≤ mostBytes
 unfolding listing listingOf text
-listing-most b = go (readPlate b) refl (near-read b)
+listing-most b = go (readPlate b) refl (small-read b)
   where
-    go : (a : Answer Plate) → readPlate b ≡ a → Near a → length (listingOf a) ≤ mostBytes
+    go : (a : Answer Plate) → readPlate b ≡ a → Small a → length (listingOf a) ≤ mostBytes
     go (given p) e k = laid-few b p e withoutCap
-    go (refused n q) e k = omega (arith, line-few "REFUSED" (n ∷ q ∷ []) (k .0, (k .1, tt)))
+    go (refused n q) e k = omega (arith, line-few "REFUSED" (n ∷ q ∷ []) (omega (arith, k .0), (omega (arith, k .1), tt)))

@@ -17,14 +17,14 @@ use Rattle.rules.specs.Listing.{line, laidLines, listingOf, listing}
 use Rattle.laws.proofs.Reading.{Accepted, accepted}
 use Rattle.plate.specs.declared.Plate.{Plate}
 use Rattle.plate.specs.State.{mostDarts}
-use Rattle.plate.proofs.Laws.{plateIn, Known, pairs-part}
+use Rattle.plate.proofs.Laws.{plateIn, Known}
 use Rattle.print.specs.Puts.{Put}
 use Rattle.print.proofs.Putting.{put-as}
 use Rattle.rounds.specs.declared.End.{End}
 use Rattle.step.specs.Rooms.{Plan}
 use Rattle.rounds.specs.Rooms.{Left}
 use Rattle.desk.specs.Room.{storySize}
-use Rattle.desk.proofs.Parts.{part-size}
+use Rattle.laws.proofs.Lists.{part-length}
 use Rattle.desk.proofs.Plans.{plan-of, same-ends, same-play}
 use Rattle.lines.specs.Story.{cycleOf}
 use Rattle.lines.specs.Lines.{plateOf, outcomeOf, Held}
@@ -78,11 +78,11 @@ module _ (v : ℕ) (ends : List ℕ) (play : List Bool) (F : Filed v ends play) 
       → Filed (length (take v first)) ends play × ((length (take (length ends) more) ≡ length ends) × ((length (take (length ends) turns) ≡ length ends)
       × ((length play + 2 ≤ fs) × ((length play + 2 ≤ ns) × ((4 * length play + length (take v first) + 4 ≤ st) × (mostBytes ≤ m))))))
   ask-laid first more turns fs ns st m a b c x y z l =
-      let e = part-size v (limits1 .mostPorts) first a filed-ports in (
+      let e = part-length v (limits1 .mostPorts) first a filed-ports in (
         subst (λ (k : ℕ). Filed k ends play) e F,
         (
-          sym (part-size (length ends) mostDarts more b filed-darts),
-          (sym (part-size (length ends) mostDarts turns c filed-darts), (x, (y, (omega (arith, e), l)))),
+          sym (part-length (length ends) mostDarts more b filed-darts),
+          (sym (part-length (length ends) mostDarts turns c filed-darts), (x, (y, (omega (arith, e), l)))),
         ),
       )
 

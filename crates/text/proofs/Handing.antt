@@ -21,7 +21,6 @@ use Rattle.laws.proofs.Counting.{flat-laid}
 use Rattle.land.specs.Walks.{lands, Below, Walkable}
 use Rattle.land.proofs.Laws.{below-of}
 use Rattle.split.proofs.Laws.{holds-lands, holds-walkable}
-use Rattle.rounds.specs.declared.Word.{Word}
 use Rattle.rounds.specs.declared.End.{End}
 use Rattle.step.specs.Stories.{storyOf}
 use Rattle.rounds.specs.Stories.{wordIn, nameIn, saidBy, saidOf}

@@ -2,33 +2,31 @@
 --   dartsAll ps             how many darts the paths ps have together
 --   Drawn m e k q           a path of one dart at least, with darts below m, the name of a fragment below e and the number of a land below k
 --   Lined ps e cyc s        of the state s that began with the cycle cyc: it is kept, its lands have twice the darts of cycle and paths, and each path is drawn
--- lined-lay, lined-start, lined-laid: a path keeps that, the first cycle begins it, and so every plate that is read has it, laid with at most n paths. laid-name: the name of a plate that is STUCK is a channel's.
+-- lined-lay, lined-start, lined-laid: a path keeps that, the first cycle begins it, and so every plate that is read has it, laid with at most n paths.
 -- Assumes nothing.
 use mathlib.Core.Path.{_≡_, sym, ap, subst}
 use mathlib.Core.Bool.{Bool, true}
 use mathlib.Core.List.{List, [], _∷_, _++_}
-use Prim.Native.Nat.{ℕ, _+_, _*_, _<_, _≤_}
+use Prim.Native.Nat.{ℕ, _+_, _*_, _<_}
 use native.Mathlib.Omega.{arith}
 use lib.Dec.{T}
 use lib.ListN.{length, getD, set, length-append, length-set, length-replicate}
-use Rattle.rules.specs.Lists.{keep, at}
+use Rattle.rules.specs.Lists.{at}
 use Rattle.rules.specs.Terms.{listed}
 use Rattle.rules.specs.Ways.{path}
 use Rattle.rules.specs.Refusals.{given, Plate, readPlate}
-use Rattle.rules.specs.Laying.{Path, State, back, before, since, Choice, Verdict, flat, stuck, ready, without, chosen, stuckOr, splitLands, admissible, within, fragmentAt, contactsOf, choiceOf, choices, allLaid, judge, lay, start, cycle, rounds, firstChannel, firstCycle, laying, wholePlate, laidOut}
-use Rattle.laws.proofs.Tests.{cond-cases}
-use Rattle.laws.proofs.Lists.{All, all-snoc, all-weaken, keep-all}
+use Rattle.rules.specs.Laying.{Path, State, back, before, since, Choice, splitLands, admissible, within, fragmentAt, contactsOf, choiceOf, lay, start, cycle, firstChannel, firstCycle, laying, wholePlate, laidOut}
+use Rattle.laws.proofs.Lists.{All, all-snoc, all-weaken}
 use Rattle.laws.proofs.Sets.{at-lt}
 use Rattle.laws.proofs.Runs.{length-back, length-listed}
 use Rattle.laws.proofs.Split.{before-since}
 use Rattle.laws.proofs.Euler.{lengthAll, length-all-set, length-all-snoc}
-use Rattle.laws.proofs.Choices.{admitted, first-fit, Open, laidNow, Sensible, choices-sensible, rounds-keep}
+use Rattle.laws.proofs.Choices.{admitted, first-fit, Open, laidNow, Sensible, rounds-keep}
 use Rattle.laws.proofs.Reaches.{Wide}
 use Rattle.laws.proofs.Verdicts.{wide}
 use Rattle.laws.proofs.Rounds.{Layable, Kept, kept-lay, lay-head, lay-fresh}
 use Rattle.laws.proofs.FirstCycle.{kept-start, first-play}
 use Rattle.laws.proofs.Reading.{accepted, layable, channel-play}
-use Rattle.laws.proofs.Counting.{rounds-cases}
 use Rattle.land.specs.Walks.{Below}
 use Rattle.land.proofs.Laws.{below-of}
 
@@ -164,42 +162,3 @@ module _ (b : List ℕ) (p : Plate) (h : readPlate b ≡ given p) (n : ℕ) wher
       (rounds-keep (p .ports) (p .ends) (wholePlate p) (Lined (p .ends) (wholePlate p) (length (wholePlate p)) (firstCycle (p .ports) (p .ends) (wholePlate p)))
       (lined-lay (p .ports) (p .ends) (wholePlate p) G (firstCycle (p .ports) (p .ends) (wholePlate p))) n (start (p .ports) (p .ends) (wholePlate p) (firstChannel (p .ports) (p .ends) (wholePlate p)))
       (lined-start (p .ports) (p .ends) (wholePlate p) G (wide p A) (firstChannel (p .ports) (p .ends) (wholePlate p)) (first-play (p .ports) (p .ends) (wholePlate p) 0 (channel-play p A))))
-
--- ---- the name
-
--- P holds of the name of a verdict that is stuck
-abbrev Stuck : (ℕ → Type 0) → Verdict → Type 0
-Stuck P flat = Unit {0}
-Stuck P (stuck k) = P k
-Stuck P (ready c) = Unit {0}
-
-module _ (np : ℕ) (ps : List ℕ) (on : List Bool) where
-  judge-named : (s : State) → Stuck (λ k. k < length on) (judge np ps on s)
-  unfolding judge stuckOr
-  judge-named s =
-      cond-cases (Stuck (λ k. k < length on)) (allLaid np ps on (s .turns)) (λ t. tt)
-      (λ t. go (keep without (choices np ps on s)) (chosen (choices np ps on s)) (keep-all Named without (choices np ps on s) (all-weaken (Sensible np ps on s) Named named (choices np ps on s) (choices-sensible np ps on s))))
-    where
-      Named : Choice → Type 0
-      Named c = c .fragment .name < length on
-
-      named : (c : Choice) → Sensible np ps on s c → Named c
-      named c h = name-of np ps on s c h
-
-      go : (m : List Choice) (c : Choice) → All Named m → Stuck (λ k. k < length on) (stuckOr m (ready c))
-      go [] c a = tt
-      go (x ∷ m) c a = a .0
-
-  named-rounds : (n : ℕ) (s : State) → rounds np ps on n s .name ≤ length on
-  named-rounds =
-      rounds-cases np ps on (λ n s o. o .name ≤ length on)
-      (λ n s e. omega arith) (λ n s k e. stuck-less k (subst (Stuck (λ j. j < length on)) e (judge-named s))) (λ s c e. omega arith) (λ n s c e o h. h)
-    where
-      stuck-less : (k : ℕ) → k < length on → k ≤ length on
-      stuck-less k l = omega arith
-
-pub laid-name : (p : Plate) (n : ℕ) → laidOut p n .name ≤ p .channels
-unfolding laidOut laying
-laid-name p n =
-    subst (λ (e : ℕ). laidOut p n .name ≤ e) (length-replicate (p .channels) true)
-    (named-rounds (p .ports) (p .ends) (wholePlate p) n (start (p .ports) (p .ends) (wholePlate p) (firstChannel (p .ports) (p .ends) (wholePlate p))))

@@ -6,9 +6,9 @@ use mathlib.Core.List.{List, [], _∷_}
 use Prim.Native.Nat.{ℕ}
 use mir.Val.{boolByte}
 use Rattle.plate.specs.declared.Refusal.{Refusal}
-use Rattle.lay.specs.declared.Laid.{Laid}
-use Rattle.lay.specs.declared.Laid.the-variants.{Flat, Stuck, Partial, Refused}
-use Rattle.lay.specs.Answers.{laidAnswer}
+use Rattle.laid.specs.declared.Laid.{Laid}
+use Rattle.laid.specs.declared.Laid.the-variants.{Flat, Stuck, Partial, Refused}
+use Rattle.laid.specs.Answers.{laidAnswer}
 use Rattle.sheet.specs.declared.Count.{Count}
 use Rattle.sheet.specs.declared.Sheet.{Sheet}
 use Rattle.sheet.specs.declared.Sheet.the-variants.{Judged, Refused as Unread}

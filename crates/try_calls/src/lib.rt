@@ -3,11 +3,11 @@ ghost use mathlib.Core.Path.{_≡_};
 ghost use lib.ListN.{length};
 ghost use Rattle.rules.specs.Laying.{layPlate, told, turnsLeft, landsLeft, lengthsLeft};
 ghost use Rattle.rules.specs.Sheets.{readSheet, counted, dartsRead, lengthsRead};
-ghost use Rattle.lay.specs.Answers.{laidAnswer};
+ghost use Rattle.laid.specs.Answers.{laidAnswer};
 ghost use Rattle.sheet.specs.Answers.{answerOf};
 ghost use Rattle.text.specs.Calls.{listedCount, listedLeft};
 ghost use Rattle.try_calls.specs.Numbers.{toldNumbers, countNumbers};
-use lay::Laid;
+use laid::Laid;
 use sheet::Sheet;
 
 // What laying answers, as four numbers.

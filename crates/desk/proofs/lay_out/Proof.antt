@@ -1,6 +1,7 @@
 -- `desk::lay_out` meets its contract: a part of each array is as long as the plate asks.
 -- Assumes nothing.
-use Rattle.desk.proofs.Parts.{part-size, desk-of}
+use Rattle.laws.proofs.Lists.{part-length}
+use Rattle.desk.proofs.Parts.{desk-of}
 use borrow.Author.Needs.{needs}
 use Rattle.desk.proofs.lay_out.Statement.{statement}
 use Rattle.desk.proofs.lay_out.Tie as tie
@@ -30,43 +31,43 @@ array-borrow-prefix-laid : tie.Need-array-borrow-prefix-laid
 array-borrow-prefix-laid c = search needs
 
 slice-aggregate-lay-out : tie.Need-slice-aggregate-lay-out
-slice-aggregate-lay-out c = part-size _ _ _ (c .before .before .before .before .before .before .before .before .before .before .before .before .no-marks .ensures .1) (c .before .before .before .before .before .before .before .before .before .before .before .before .before .before .before .before .before .before .before .before .before .pre .1 .0)
+slice-aggregate-lay-out c = part-length _ _ _ (c .before .before .before .before .before .before .before .before .before .before .before .before .no-marks .ensures .1) (c .before .before .before .before .before .before .before .before .before .before .before .before .before .before .before .before .before .before .before .before .before .pre .1 .0)
 
 array-borrow-prefix-marks : tie.Need-array-borrow-prefix-marks
 array-borrow-prefix-marks c = search needs
 
 slice-aggregate-lay-out-2 : tie.Need-slice-aggregate-lay-out-2
-slice-aggregate-lay-out-2 c = part-size _ _ _ (c .before .before .before .before .before .before .before .before .before .before .before .before .no-marks2 .ensures .1) (c .before .before .before .before .before .before .before .before .before .before .before .before .before .before .before .before .before .before .before .before .before .before .pre .1 .0)
+slice-aggregate-lay-out-2 c = part-length _ _ _ (c .before .before .before .before .before .before .before .before .before .before .before .before .no-marks2 .ensures .1) (c .before .before .before .before .before .before .before .before .before .before .before .before .before .before .before .before .before .before .before .before .before .before .pre .1 .0)
 
 array-borrow-prefix-queue : tie.Need-array-borrow-prefix-queue
 array-borrow-prefix-queue c = search needs
 
 slice-aggregate-lay-out-3 : tie.Need-slice-aggregate-lay-out-3
-slice-aggregate-lay-out-3 c = part-size _ _ _ (c .before .before .before .before .before .before .before .before .before .before .before .before .no-ports .ensures .1) (c .before .before .before .before .before .before .before .before .before .before .before .before .before .before .before .before .before .before .before .before .before .before .before .pre .1 .0)
+slice-aggregate-lay-out-3 c = part-length _ _ _ (c .before .before .before .before .before .before .before .before .before .before .before .before .no-ports .ensures .1) (c .before .before .before .before .before .before .before .before .before .before .before .before .before .before .before .before .before .before .before .before .before .before .before .pre .1 .0)
 
 array-borrow-prefix-touched : tie.Need-array-borrow-prefix-touched
 array-borrow-prefix-touched c = search needs
 
 slice-aggregate-lay-out-4 : tie.Need-slice-aggregate-lay-out-4
-slice-aggregate-lay-out-4 c = part-size _ _ _ (c .before .before .before .before .before .before .before .before .before .before .before .before .no-marks3 .ensures .1) (c .before .before .before .before .before .before .before .before .before .before .before .before .before .before .before .before .before .before .before .before .before .before .before .before .pre .1 .0)
+slice-aggregate-lay-out-4 c = part-length _ _ _ (c .before .before .before .before .before .before .before .before .before .before .before .before .no-marks3 .ensures .1) (c .before .before .before .before .before .before .before .before .before .before .before .before .before .before .before .before .before .before .before .before .before .before .before .before .pre .1 .0)
 
 array-borrow-prefix-contacts : tie.Need-array-borrow-prefix-contacts
 array-borrow-prefix-contacts c = search needs
 
 slice-aggregate-lay-out-5 : tie.Need-slice-aggregate-lay-out-5
-slice-aggregate-lay-out-5 c = part-size _ _ _ (c .before .before .before .before .before .before .before .before .before .before .before .before .no-ports2 .ensures .1) (c .before .before .before .before .before .before .before .before .before .before .before .before .before .before .before .before .before .before .before .before .before .before .before .before .before .pre .1 .0)
+slice-aggregate-lay-out-5 c = part-length _ _ _ (c .before .before .before .before .before .before .before .before .before .before .before .before .no-ports2 .ensures .1) (c .before .before .before .before .before .before .before .before .before .before .before .before .before .before .before .before .before .before .before .before .before .before .before .before .before .pre .1 .0)
 
 array-borrow-prefix-inside : tie.Need-array-borrow-prefix-inside
 array-borrow-prefix-inside c = search needs
 
 slice-aggregate-lay-out-6 : tie.Need-slice-aggregate-lay-out-6
-slice-aggregate-lay-out-6 c = part-size _ _ _ (c .before .before .before .before .before .before .before .before .before .before .before .before .no-marks4 .ensures .1) (c .before .before .before .before .before .before .before .before .before .before .before .before .before .before .before .before .before .before .before .before .before .before .before .before .before .before .pre .1 .0)
+slice-aggregate-lay-out-6 c = part-length _ _ _ (c .before .before .before .before .before .before .before .before .before .before .before .before .no-marks4 .ensures .1) (c .before .before .before .before .before .before .before .before .before .before .before .before .before .before .before .before .before .before .before .before .before .before .before .before .before .before .pre .1 .0)
 
 array-borrow-prefix-own : tie.Need-array-borrow-prefix-own
 array-borrow-prefix-own c = search needs
 
 slice-aggregate-lay-out-7 : tie.Need-slice-aggregate-lay-out-7
-slice-aggregate-lay-out-7 c = part-size _ _ _ (c .before .before .before .before .before .before .before .before .before .before .before .before .all-channels .ensures .1) (c .before .before .before .before .before .before .before .before .before .before .before .before .before .before .before .before .before .before .before .before .before .before .before .before .before .before .before .pre .1 .1 .0)
+slice-aggregate-lay-out-7 c = part-length _ _ _ (c .before .before .before .before .before .before .before .before .before .before .before .before .all-channels .ensures .1) (c .before .before .before .before .before .before .before .before .before .before .before .before .before .before .before .before .before .before .before .before .before .before .before .before .before .before .before .pre .1 .1 .0)
 
 lay-out-requires : tie.Need-lay-out-requires
 lay-out-requires c κs = let a = c .before .before .before .before .before .before .before .before .before .before .before .before .before .before .before .before .before .before .before .before .before .before .before .before .before .before .before .before .pre in (a .0, (a .1 .1 .1 .0, (a .1 .1 .1 .1 .0, (a .1 .1 .1 .1 .1 .0, (a .1 .1 .1 .1 .1 .1 .0, (desk-of _ _ _ _ _ _ _ _ _ (c .before .before .before .before .before .before .before .before .before .before .before .before .before .before .before .before .before .before .before .no-marks .ensures .1) (c .before .before .before .before .before .before .before .before .before .before .before .before .before .before .before .before .before .before .no-marks2 .ensures .1) (c .before .before .before .before .before .before .before .before .before .before .before .before .before .before .before .before .before .no-ports .ensures .1) (c .before .before .before .before .before .before .before .before .before .before .before .before .before .before .before .before .no-marks3 .ensures .1) (c .before .before .before .before .before .before .before .before .before .before .before .before .before .before .before .no-ports2 .ensures .1) (c .before .before .before .before .before .before .before .before .before .before .before .before .before .before .no-marks4 .ensures .1) (c .before .before .before .before .before .before .before .before .before .before .before .before .before .all-channels .ensures .1) (a .1 .0) (a .1 .1 .0), a .1 .1 .1 .1 .1 .1 .1))))))

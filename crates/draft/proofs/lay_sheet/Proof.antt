@@ -9,7 +9,7 @@ use lib.Seq.{length-take-le, take-at}
 use Rattle.plate.specs.declared.Reading.the-variants.{Plate as Read}
 use Rattle.plate.specs.State.{mostDarts}
 use Rattle.plate.proofs.Laws.{Known, known, part-is, pairs-length}
-use Rattle.lay.proofs.Calling.{ports-fewer, fits}
+use Rattle.laid.proofs.Leaving.{ports-fewer, fits}
 use Rattle.draft.proofs.Calling.{unstuck-of, stuck-small, stuck-all, flat-all}
 use borrow.Author.Needs.{needs}
 use Rattle.draft.proofs.lay_sheet.Statement.{statement}

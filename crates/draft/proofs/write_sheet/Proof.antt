@@ -3,8 +3,8 @@
 use mathlib.Core.Path.{sym, ap, _∙_}
 use native.Mathlib.Omega.{arith}
 use Rattle.plate.specs.declared.Reading.{Reading}
-use Rattle.plate.specs.Answers.{formatOf, readingOf}
-use Rattle.plate.proofs.Laws.{Known, known}
+use Rattle.plate.specs.Answers.{readingOf}
+use Rattle.plate.proofs.Laws.{Known, known, length-sheet}
 use Rattle.draft.proofs.Calling.{unread-all, short-all}
 use borrow.Author.Needs.{needs}
 use Rattle.draft.proofs.write_sheet.Statement.{statement}
@@ -29,16 +29,26 @@ refusal-in-requires c κs = search needs
 returns : tie.Need-returns
 returns c = unread-all _ _ (c .before .before .before .read .ensures) _ (c .before .enum-told .given .1) _ (c .refusal-in .ensures) (c .before .before .before .before .before .before .args .out .now)
 
-file-length-requires : tie.Need-file-length-requires
-file-length-requires c κs = omega (arith, plate (c .before) .most-channels)
+mul-turns-at : tie.Need-mul-turns-at
+mul-turns-at c = omega (arith, plate (c .before .before) .most-channels)
+
+add-turns-at : tie.Need-add-turns-at
+add-turns-at c = omega (arith, plate (c .before .before) .most-channels)
+
+mul-needed : tie.Need-mul-needed
+mul-needed c = omega (arith, plate (c .before .before .before) .most-channels)
+
+mul-needed-2 : tie.Need-mul-needed-2
+mul-needed-2 c = omega (arith, plate (c .before .before .before) .most-channels)
+
+add-needed : tie.Need-add-needed
+add-needed c = omega (arith, plate (c .before .before .before) .most-channels)
 
 returns-2 : tie.Need-returns-2
-unfolding formatOf
-returns-2 c = short-all _ _ (plate (c .before .before .before)) (c .before .before .before .before .before .before .before .before .args .out .now) (omega (arith, c .if1 .taken, c .before .file-length .ensures))
+returns-2 c = short-all _ _ (plate (c .before .before .before .before)) (c .before .before .before .before .before .before .before .before .before .args .out .now) (omega (arith, c .if1 .taken, length-sheet (c .before .before .before .before .got .given .0 .0 .channels)))
 
 lay-sheet-requires : tie.Need-lay-sheet-requires
-unfolding formatOf
-lay-sheet-requires c κs = (ap (λ (r : Reading). readingOf r (c .before .before .before .before .before .before .before .before .before .args .file .now)) (sym (c .before .before .before .before .got .given .1)) ∙ c .before .before .before .before .before .before .read .ensures, omega (arith, c .before .if1 .left, c .before .before .file-length .ensures))
+lay-sheet-requires c κs = (ap (λ (r : Reading). readingOf r (c .before .before .before .before .before .before .before .before .before .before .args .file .now)) (sym (c .before .before .before .before .before .got .given .1)) ∙ c .before .before .before .before .before .before .before .read .ensures, omega (arith, c .before .if1 .left, length-sheet (c .before .before .before .before .before .got .given .0 .0 .channels)))
 
 same-length : tie.Need-same-length
 same-length c = search needs
@@ -55,7 +65,11 @@ write-sheet-spec =
     enum-told
     refusal-in-requires
     returns
-    file-length-requires
+    mul-turns-at
+    add-turns-at
+    mul-needed
+    mul-needed-2
+    add-needed
     returns-2
     lay-sheet-requires
     same-length

@@ -1,6 +1,6 @@
 -- `lay::is_short` meets its contract: the first test decides, or the second, or else the third.
 -- Assumes nothing.
-use Rattle.lay.proofs.Answering.{short-first, short-second, short-third}
+use Rattle.lay.proofs.Calling.{short-first, short-second, short-third}
 use Rattle.lay.proofs.is_short.Statement.{statement}
 use Rattle.lay.proofs.is_short.Tie as tie
 

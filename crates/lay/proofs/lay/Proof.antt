@@ -9,7 +9,8 @@ use lib.Seq.{length-take-le}
 use Rattle.rules.specs.Refusals.{given}
 use Rattle.rules.specs.Laying.{layPlate, laidOut}
 use Rattle.plate.proofs.Laws.{Known, known, plateIn, part-is}
-use Rattle.lay.proofs.Calling.{unread-all, refused-all, long-enough, ports-fewer, short-so, call-short, call-laid, fits, laid-told, laid-turns, laid-lands, laid-lengths}
+use Rattle.laid.proofs.Leaving.{ports-fewer, fits, laid-told, laid-turns, laid-lands, laid-lengths}
+use Rattle.lay.proofs.Calling.{unread-all, refused-all, long-enough, short-so, call-short, call-laid}
 use borrow.Author.Needs.{needs}
 use Rattle.lay.proofs.lay.Statement.{statement}
 use Rattle.lay.proofs.lay.Tie as tie

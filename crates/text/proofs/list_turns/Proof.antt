@@ -4,7 +4,7 @@ use mathlib.Core.Path.{sym, ap}
 use Prim.Native.Nat.{ℕ}
 use native.Mathlib.Omega.{arith}
 use Rattle.print.proofs.Putting.{put-as}
-use Rattle.desk.proofs.Parts.{part-size}
+use Rattle.laws.proofs.Lists.{part-length}
 use Rattle.text.specs.Calls.{linesOf}
 use Rattle.text.proofs.Calling.{filed-ports, filed-darts, ask-laid}
 use borrow.Author.Needs.{needs}
@@ -24,19 +24,19 @@ array-borrow-prefix-first : tie.Need-array-borrow-prefix-first
 array-borrow-prefix-first c = omega (arith, filed-ports _ _ _ (c .before .before .before .before .before .before .before .before .before .pre .0), c .before .before .no-ports .ensures .1)
 
 slice-aggregate-list-laid : tie.Need-slice-aggregate-list-laid
-slice-aggregate-list-laid c = part-size _ _ _ (c .before .before .before .no-ports .ensures .1) (filed-ports _ _ _ (c .before .before .before .before .before .before .before .before .before .before .pre .0))
+slice-aggregate-list-laid c = part-length _ _ _ (c .before .before .before .no-ports .ensures .1) (filed-ports _ _ _ (c .before .before .before .before .before .before .before .before .before .before .pre .0))
 
 array-borrow-prefix-more : tie.Need-array-borrow-prefix-more
 array-borrow-prefix-more c = omega (arith, filed-darts _ _ _ (c .before .before .before .before .before .before .before .before .before .before .pre .0), c .before .before .no-ends .ensures .1)
 
 slice-aggregate-list-laid-2 : tie.Need-slice-aggregate-list-laid-2
-slice-aggregate-list-laid-2 c = part-size _ _ _ (c .before .before .before .no-ends .ensures .1) (filed-darts _ _ _ (c .before .before .before .before .before .before .before .before .before .before .before .pre .0))
+slice-aggregate-list-laid-2 c = part-length _ _ _ (c .before .before .before .no-ends .ensures .1) (filed-darts _ _ _ (c .before .before .before .before .before .before .before .before .before .before .before .pre .0))
 
 array-borrow-prefix-turns : tie.Need-array-borrow-prefix-turns
 array-borrow-prefix-turns c = omega (arith, filed-darts _ _ _ (c .before .before .before .before .before .before .before .before .before .before .before .pre .0), c .before .before .no-turns .ensures .1)
 
 slice-aggregate-list-laid-3 : tie.Need-slice-aggregate-list-laid-3
-slice-aggregate-list-laid-3 c = part-size _ _ _ (c .before .before .before .no-turns .ensures .1) (filed-darts _ _ _ (c .before .before .before .before .before .before .before .before .before .before .before .before .pre .0))
+slice-aggregate-list-laid-3 c = part-length _ _ _ (c .before .before .before .no-turns .ensures .1) (filed-darts _ _ _ (c .before .before .before .before .before .before .before .before .before .before .before .before .pre .0))
 
 list-laid-requires : tie.Need-list-laid-requires
 list-laid-requires c κs = let a = c .before .before .before .before .before .before .before .before .before .before .before .before .before .before .before .before .pre in ask-laid _ _ _ (a .0) _ _ _ _ _ _ _ (c .before .before .before .before .before .before .before .before .before .no-ports .ensures .1) (c .before .before .before .before .before .before .before .before .no-ends .ensures .1) (c .before .before .before .before .before .before .before .no-turns .ensures .1) (a .1 .0) (a .1 .1 .0) (a .1 .1 .1 .0) (a .1 .1 .1 .1)
@@ -54,7 +54,7 @@ same-length-4 : tie.Need-same-length-4
 same-length-4 c = search needs
 
 returns : tie.Need-returns
-returns c = let a = c .before .before .before .before .before .before .before .before .before .before .before .before .before .before .before .before .before .before .before .before .before .before .before .before .before .before .before .before in put-as (ap (λ (m : ℕ). linesOf m (a .args .ends .now) (a .args .play .now)) (sym (part-size _ _ _ (c .before .before .before .before .before .before .before .before .before .before .before .before .before .before .before .before .before .before .before .before .before .no-ports .ensures .1) (filed-ports _ _ _ (a .pre .0))))) (c .before .before .before .before .before .before .before .before .before .before .before .list-laid .ensures)
+returns c = let a = c .before .before .before .before .before .before .before .before .before .before .before .before .before .before .before .before .before .before .before .before .before .before .before .before .before .before .before .before in put-as (ap (λ (m : ℕ). linesOf m (a .args .ends .now) (a .args .play .now)) (sym (part-length _ _ _ (c .before .before .before .before .before .before .before .before .before .before .before .before .before .before .before .before .before .before .before .before .before .no-ports .ensures .1) (filed-ports _ _ _ (a .pre .0))))) (c .before .before .before .before .before .before .before .before .before .before .before .list-laid .ensures)
 
 pub list-turns-spec : {M : Type 1} → statement M
 list-turns-spec =

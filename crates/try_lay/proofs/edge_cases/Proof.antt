@@ -1,7 +1,7 @@
 -- `try_lay::edge_cases` is safe and ends: the part of the file that is lent lies within it.
 -- Assumes nothing.
 use native.Mathlib.Omega.{arith}
-use Rattle.desk.proofs.Parts.{part-size}
+use Rattle.laws.proofs.Lists.{part-length}
 use borrow.Author.Needs.{needs}
 use Rattle.try_lay.proofs.edge_cases.Statement.{statement}
 use Rattle.try_lay.proofs.edge_cases.Tie as tie
@@ -55,7 +55,7 @@ array-share-prefix-few : tie.Need-array-share-prefix-few
 array-share-prefix-few c = search needs
 
 slice-aggregate-large : tie.Need-slice-aggregate-large
-slice-aggregate-large c = part-size 408 1208 (c .before .ring .result) (c .before .ring .ensures) (omega arith)
+slice-aggregate-large c = part-length 408 1208 (c .before .ring .result) (c .before .ring .ensures) (omega arith)
 
 large-requires : tie.Need-large-requires
 large-requires c κs = search needs

@@ -2,7 +2,7 @@
 -- Assumes nothing.
 use mathlib.Core.Path.{refl}
 use native.Mathlib.Omega.{arith}
-use Rattle.desk.proofs.Parts.{part-size}
+use Rattle.laws.proofs.Lists.{part-length}
 use borrow.Author.Needs.{needs}
 use Rattle.try_lay.proofs.large.Statement.{statement}
 use Rattle.try_lay.proofs.large.Tie as tie
@@ -15,19 +15,19 @@ array-borrow-prefix-turns : tie.Need-array-borrow-prefix-turns
 array-borrow-prefix-turns c = search needs
 
 slice-aggregate-lay : tie.Need-slice-aggregate-lay
-slice-aggregate-lay c = part-size _ 1200 _ refl (omega arith)
+slice-aggregate-lay c = part-length _ 1200 _ refl (omega arith)
 
 array-borrow-prefix-lands : tie.Need-array-borrow-prefix-lands
 array-borrow-prefix-lands c = search needs
 
 slice-aggregate-lay-2 : tie.Need-slice-aggregate-lay-2
-slice-aggregate-lay-2 c = part-size _ 1200 _ refl (omega arith)
+slice-aggregate-lay-2 c = part-length _ 1200 _ refl (omega arith)
 
 array-borrow-prefix-lengths : tie.Need-array-borrow-prefix-lengths
 array-borrow-prefix-lengths c = search needs
 
 slice-aggregate-lay-3 : tie.Need-slice-aggregate-lay-3
-slice-aggregate-lay-3 c = part-size _ 602 _ refl (omega arith)
+slice-aggregate-lay-3 c = part-length _ 602 _ refl (omega arith)
 
 lay-requires : tie.Need-lay-requires
 lay-requires c κs = search needs

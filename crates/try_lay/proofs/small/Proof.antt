@@ -5,7 +5,7 @@ use Prim.Native.Nat.{ℕ}
 use native.Mathlib.Omega.{arith}
 use lib.ListN.{replicate}
 use lib.Seq.{length-front}
-use Rattle.desk.proofs.Parts.{part-size}
+use Rattle.laws.proofs.Lists.{part-length}
 use borrow.Author.Needs.{needs}
 use Rattle.try_lay.proofs.small.Statement.{statement}
 use Rattle.try_lay.proofs.small.Tie as tie
@@ -19,19 +19,19 @@ array-borrow-prefix-turns : tie.Need-array-borrow-prefix-turns
 array-borrow-prefix-turns c = search needs
 
 slice-aggregate-lay : tie.Need-slice-aggregate-lay
-slice-aggregate-lay c = part-size _ 14 _ refl (omega arith)
+slice-aggregate-lay c = part-length _ 14 _ refl (omega arith)
 
 array-borrow-prefix-lands : tie.Need-array-borrow-prefix-lands
 array-borrow-prefix-lands c = search needs
 
 slice-aggregate-lay-2 : tie.Need-slice-aggregate-lay-2
-slice-aggregate-lay-2 c = part-size _ 14 _ refl (omega arith)
+slice-aggregate-lay-2 c = part-length _ 14 _ refl (omega arith)
 
 array-borrow-prefix-lengths : tie.Need-array-borrow-prefix-lengths
 array-borrow-prefix-lengths c = search needs
 
 slice-aggregate-lay-3 : tie.Need-slice-aggregate-lay-3
-slice-aggregate-lay-3 c = part-size _ 6 _ refl (omega arith)
+slice-aggregate-lay-3 c = part-length _ 6 _ refl (omega arith)
 
 lay-requires : tie.Need-lay-requires
 lay-requires c κs = search needs

@@ -20,9 +20,9 @@ use Rattle.step.proofs.Telling.{lands-few}
 use Rattle.rounds.specs.declared.End.{End}
 use Rattle.rounds.specs.Stories.{saidBy}
 use Rattle.rounds.specs.Rooms.{Left}
-use Rattle.lay.specs.declared.Laid.{Laid}
-use Rattle.lay.specs.Answers.{laidAnswer}
-use Rattle.lay.specs.Sheets.{Fit, Sheet}
+use Rattle.laid.specs.declared.Laid.{Laid}
+use Rattle.laid.specs.Answers.{laidAnswer}
+use Rattle.laid.specs.Sheets.{Fit, Sheet}
 
 module _ (v : ℕ) (ends : List ℕ) (play : List Bool) (n : ℕ) (t₀ l₀ ns₀ : List ℕ) (F : Fit v ends play n t₀ l₀ ns₀) (fd md t fs ns st : List ℕ) (r : End) (E : Left v ends play n fd md t fs ns st r) where
   abbrev o : Outcome

@@ -1,14 +1,14 @@
--- `lay::lay_pairs` meets its contract: the part of the array that is lent has the pairs, and each of its channels is in play.
+-- `laid::lay_pairs` meets its contract: the part of the array that is lent has the pairs, and each of its channels is in play.
 -- Assumes nothing.
 use mathlib.Core.Path.{_≡_, sym, ap, _∙_}
 use mathlib.Core.Bool.{true}
 use Prim.Native.Nat.{_/_}
 use lib.ListN.{length, take, replicate, length-replicate}
 use Rattle.desk.proofs.Plans.{pairs-as, play-as}
-use Rattle.lay.proofs.Rooming.{pairs-few, ask-lands, sheet-as}
+use Rattle.laid.proofs.Rooming.{pairs-few, ask-lands, sheet-as}
 use borrow.Author.Needs.{needs}
-use Rattle.lay.proofs.lay_pairs.Statement.{statement}
-use Rattle.lay.proofs.lay_pairs.Tie as tie
+use Rattle.laid.proofs.lay_pairs.Statement.{statement}
+use Rattle.laid.proofs.lay_pairs.Tie as tie
 
 -- what is lent of the two arrays
 ends-so : (c : tie.After-ends3) → take (length (c .before .before .before .before .before .before .before .before .before .before .args .pairs .now)) (c .before .before .before .copy-ends .last .1 .0) ≡ c .before .before .before .before .before .before .before .before .before .before .args .pairs .now

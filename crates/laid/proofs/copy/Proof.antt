@@ -1,4 +1,4 @@
--- `lay::copy` meets its contract. The invariant: the first i are copied and the rest stays. The measure is the number that is left.
+-- `laid::copy` meets its contract. The invariant: the first i are copied and the rest stays. The measure is the number that is left.
 -- Assumes nothing.
 use mathlib.Core.Path.{_≡_, refl, ap, _∙_}
 use mathlib.Core.List.{_++_}
@@ -6,8 +6,8 @@ use Prim.Native.Nat.{ℕ, _-_, _≤_}
 use native.Mathlib.Omega.{arith}
 use lib.ListN.{length, take, drop, length-set}
 use Rattle.plate.proofs.Copies.{copy-on}
-use Rattle.lay.proofs.copy.Statement.{statement}
-use Rattle.lay.proofs.copy.Tie as tie
+use Rattle.laid.proofs.copy.Statement.{statement}
+use Rattle.laid.proofs.copy.Tie as tie
 
 abbrev Inv-loop : tie.InvT-loop
 Inv-loop from n to₀ i₀ to i = (i ≤ n) × (length to ≡ length to₀) × (to ≡ take i from ++ drop i to₀)

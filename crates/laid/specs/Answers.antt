@@ -3,8 +3,8 @@
 -- Assumes nothing.
 use Rattle.rules.specs.Refusals.{Answer, given, refused}
 use Rattle.rules.specs.Laying.{Told, FLAT, STUCK, PARTIAL}
-use Rattle.lay.specs.declared.Laid.{Laid}
-use Rattle.lay.specs.declared.Laid.the-variants.{Flat, Stuck, Partial, Refused}
+use Rattle.laid.specs.declared.Laid.{Laid}
+use Rattle.laid.specs.declared.Laid.the-variants.{Flat, Stuck, Partial, Refused}
 
 unfoldable pub laidAnswer : Laid → Answer Told
 laidAnswer (Flat p) = given (record { word = FLAT; paths = p; name = 0 })

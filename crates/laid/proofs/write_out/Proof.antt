@@ -1,14 +1,14 @@
--- `lay::write_out` meets its contract: what is written stands at the front, and the rest is filled.
+-- `laid::write_out` meets its contract: what is written stands at the front, and the rest is filled.
 -- Assumes nothing.
 use mathlib.Core.Path.{_∙_}
 use lib.ListN.{length}
 use Rattle.rules.specs.Lists.{concat}
 use Rattle.rules.specs.Terms.{missing}
 use Rattle.land.specs.Walks.{lands}
-use Rattle.lay.proofs.Filling.{front-filled, front-copied}
+use Rattle.laid.proofs.Filling.{front-filled, front-copied}
 use borrow.Author.Needs.{needs}
-use Rattle.lay.proofs.write_out.Statement.{statement}
-use Rattle.lay.proofs.write_out.Tie as tie
+use Rattle.laid.proofs.write_out.Statement.{statement}
+use Rattle.laid.proofs.write_out.Tie as tie
 
 write-lands-requires : tie.Need-write-lands-requires
 write-lands-requires c κs = search needs

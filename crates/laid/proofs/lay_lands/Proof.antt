@@ -1,10 +1,10 @@
--- `lay::lay_lands` meets its contract: a part of each array is as long as the plate asks, and the arrays are long enough for any plate within the limits.
+-- `laid::lay_lands` meets its contract: a part of each array is as long as the plate asks, and the arrays are long enough for any plate within the limits.
 -- Assumes nothing.
-use Rattle.desk.proofs.Parts.{part-size}
-use Rattle.lay.proofs.Rooming.{darts-few, ask-sheet, sheet-for}
+use Rattle.laws.proofs.Lists.{part-length}
+use Rattle.laid.proofs.Rooming.{darts-few, ask-sheet, sheet-for}
 use borrow.Author.Needs.{needs}
-use Rattle.lay.proofs.lay_lands.Statement.{statement}
-use Rattle.lay.proofs.lay_lands.Tie as tie
+use Rattle.laid.proofs.lay_lands.Statement.{statement}
+use Rattle.laid.proofs.lay_lands.Tie as tie
 
 no-ports-requires : tie.Need-no-ports-requires
 no-ports-requires c κs = search needs
@@ -25,13 +25,13 @@ array-borrow-prefix-first : tie.Need-array-borrow-prefix-first
 array-borrow-prefix-first c = search needs
 
 slice-aggregate-lay-sheet : tie.Need-slice-aggregate-lay-sheet
-slice-aggregate-lay-sheet c = part-size _ _ _ (c .before .before .before .before .before .no-ports .ensures .1) (c .before .before .before .before .before .before .before .before .before .before .before .pre .ports)
+slice-aggregate-lay-sheet c = part-length _ _ _ (c .before .before .before .before .before .no-ports .ensures .1) (c .before .before .before .before .before .before .before .before .before .before .before .pre .ports)
 
 array-borrow-prefix-more : tie.Need-array-borrow-prefix-more
 array-borrow-prefix-more c = search needs
 
 slice-aggregate-lay-sheet-2 : tie.Need-slice-aggregate-lay-sheet-2
-slice-aggregate-lay-sheet-2 c = part-size _ _ _ (c .before .before .before .before .before .no-ends .ensures .1) (darts-few _ _ _ _ _ _ _ (c .before .before .before .before .before .before .before .before .before .before .before .before .pre))
+slice-aggregate-lay-sheet-2 c = part-length _ _ _ (c .before .before .before .before .before .no-ends .ensures .1) (darts-few _ _ _ _ _ _ _ (c .before .before .before .before .before .before .before .before .before .before .before .before .pre))
 
 slice-aggregate-lay-sheet-3 : tie.Need-slice-aggregate-lay-sheet-3
 slice-aggregate-lay-sheet-3 c = search needs

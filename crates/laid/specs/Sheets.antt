@@ -14,8 +14,8 @@ use Rattle.rules.specs.Refusals.{given}
 use Rattle.rules.specs.Laying.{laying}
 use Rattle.rounds.specs.Stories.{saidOf}
 use Rattle.step.specs.Rooms.{Plan}
-use Rattle.lay.specs.declared.Laid.{Laid}
-use Rattle.lay.specs.Answers.{laidAnswer}
+use Rattle.laid.specs.declared.Laid.{Laid}
+use Rattle.laid.specs.Answers.{laidAnswer}
 
 pub record Fit (v : ℕ) (ends : List ℕ) (play : List Bool) (n : ℕ) (turns lands lengths : List ℕ) : Type 0 where
   pub plan : Plan v ends play

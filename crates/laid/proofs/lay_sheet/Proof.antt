@@ -1,9 +1,9 @@
--- `lay::lay_sheet` meets its contract: the lands that laying holds are written out, and its end is answered (Laying).
+-- `laid::lay_sheet` meets its contract: the lands that laying holds are written out, and its end is answered (Laying).
 -- Assumes nothing.
-use Rattle.lay.proofs.Laying.{ask-out, sheet-of}
+use Rattle.laid.proofs.Laying.{ask-out, sheet-of}
 use borrow.Author.Needs.{needs}
-use Rattle.lay.proofs.lay_sheet.Statement.{statement}
-use Rattle.lay.proofs.lay_sheet.Tie as tie
+use Rattle.laid.proofs.lay_sheet.Statement.{statement}
+use Rattle.laid.proofs.lay_sheet.Tie as tie
 
 lay-out-requires : tie.Need-lay-out-requires
 lay-out-requires c κs = let a = c .before .before .before .before .before .before .before .before .before .before .before .before .before .before .before .before .pre in (a .0 .plan, (a .0 .ports, (a .0 .channels, (a .1 .0, (a .0 .ofTurns, (a .1 .1 .0, (a .1 .1 .1 .0, a .1 .1 .1 .1)))))))

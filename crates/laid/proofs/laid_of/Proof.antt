@@ -1,9 +1,9 @@
--- `lay::laid_of` meets its contract: each word has its answer.
+-- `laid::laid_of` meets its contract: each word has its answer.
 -- Assumes nothing.
-use Rattle.lay.proofs.Answering.{laid-flat, laid-stuck, laid-partial}
+use Rattle.laid.proofs.Answering.{laid-flat, laid-stuck, laid-partial}
 use borrow.Author.Needs.{needs}
-use Rattle.lay.proofs.laid_of.Statement.{statement}
-use Rattle.lay.proofs.laid_of.Tie as tie
+use Rattle.laid.proofs.laid_of.Statement.{statement}
+use Rattle.laid.proofs.laid_of.Tie as tie
 
 enum-told : tie.Need-enum-told
 enum-told c = search needs

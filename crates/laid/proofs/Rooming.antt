@@ -10,9 +10,9 @@ use lib.ListN.{length, take, replicate, length-replicate}
 use Rattle.rules.specs.Files.{limits1}
 use Rattle.plate.specs.State.{mostDarts}
 use Rattle.desk.specs.Room.{storySize}
-use Rattle.desk.proofs.Parts.{part-size}
-use Rattle.lay.specs.declared.Laid.{Laid}
-use Rattle.lay.specs.Sheets.{Fit, Sheet}
+use Rattle.laws.proofs.Lists.{part-length}
+use Rattle.laid.specs.declared.Laid.{Laid}
+use Rattle.laid.specs.Sheets.{Fit, Sheet}
 
 module _ (v : ℕ) (ends : List ℕ) (play : List Bool) (n : ℕ) (t l ns : List ℕ) (F : Fit v ends play n t l ns) where
   pub darts-few : length ends ≤ mostDarts
@@ -21,16 +21,16 @@ module _ (v : ℕ) (ends : List ℕ) (play : List Bool) (n : ℕ) (t l ns : List
   pub ask-sheet : (first more : List ℕ) (fs lens st : ℕ) → limits1 .mostPorts ≡ length first → mostDarts ≡ length more → mostDarts ≡ fs → mostDarts ≡ lens → storySize ≡ st
       → Fit (length (take v first)) ends play n t l ns × ((length (take (length ends) more) ≡ length ends) × ((length play + 2 ≤ fs) × ((length play + 2 ≤ lens) × (4 * length play + length (take v first) + 4 ≤ st))))
   ask-sheet first more fs lens st a b c d s =
-      let e = part-size v (limits1 .mostPorts) first a (F .ports) in (
+      let e = part-length v (limits1 .mostPorts) first a (F .ports) in (
         subst (λ (m : ℕ). Fit m ends play n t l ns) e F,
         (
-          sym (part-size (length ends) mostDarts more b darts-few),
+          sym (part-length (length ends) mostDarts more b darts-few),
           (omega (arith, F .channels), (omega (arith, F .channels), omega (arith, e, F .channels, F .ports))),
         ),
       )
 
   pub sheet-for : (first : List ℕ) → limits1 .mostPorts ≡ length first → (m : ℕ) (t′ l′ ns′ : List ℕ) (r : Laid) → Sheet (length (take v first)) ends play n m t′ l′ ns′ r → Sheet v ends play n m t′ l′ ns′ r
-  sheet-for first a m t′ l′ ns′ r S = subst (λ (k : ℕ). Sheet k ends play n m t′ l′ ns′ r) (sym (part-size v (limits1 .mostPorts) first a (F .ports))) S
+  sheet-for first a m t′ l′ ns′ r S = subst (λ (k : ℕ). Sheet k ends play n m t′ l′ ns′ r) (sym (part-length v (limits1 .mostPorts) first a (F .ports))) S
 
 -- ---- the pairs, and every channel in play
 

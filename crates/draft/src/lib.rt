@@ -13,6 +13,7 @@ ghost use Rattle.plate.specs.Answers.{readingOf};
 ghost use Rattle.draft.specs.Answers.{writtenAnswer, done};
 ghost use Rattle.draft.specs.Parts.{headOf};
 use laid::Laid;
+use numbers::wide;
 use plate::Plate;
 use plate::Reading;
 use plate::Refusal;
@@ -46,13 +47,6 @@ fn put_word(n: usize, out: &mut [u8], at: usize)
 {
     out[at] = low(n);
     out[at + 1] = high(n);
-}
-
-// A turn as a number.
-fn wide(x: u16) -> usize
-    ensures { λ r. ⌜ r ≡ x ⌝ }
-{
-    x as usize
 }
 
 // ---- the parts of a sheet

@@ -6,30 +6,32 @@ use mathlib.Core.Path.{_≡_, refl, sym, ap, _∙_, subst}
 use mathlib.Core.Logic.{_≢_, ⊎-elim}
 use mathlib.Core.Bool.{Bool, true, false, cond, not}
 use mathlib.Core.List.{List, [], _∷_}
-use Prim.Native.Nat.{ℕ, zero, suc, _+_, _*_, _≤_, _<_}
+use Prim.Native.Nat.{ℕ, _+_, _*_, _≤_, _<_}
 use native.Mathlib.Nat.{not-suc-le-zero}
 use native.Mathlib.Decide.{decLt}
 use native.Mathlib.Omega.{arith}
 use borrow.Author.Tests.{lt-ltb, le-ltb}
 use lib.Dec.{T, ltb}
-use lib.ListN.{length, getD, set, take, replicate, length-replicate}
+use lib.ListN.{length, getD, take, replicate, length-replicate}
 use lib.Seq.{getD-take, length-take-le}
 use Rattle.rules.specs.Lists.{from, keep, at}
 use Rattle.rules.specs.Terms.{leaves, enters}
 use Rattle.rules.specs.Ways.{iter, larger, inPlay, reached}
 use Rattle.rules.specs.Laying.{fragmentAt, contactsOf}
 use Rattle.laws.proofs.Tests.{or-T, T-or₁}
-use Rattle.laws.proofs.Counts.{flag, flag-T, flag-F, T-flag, is-self, count}
+use Rattle.laws.proofs.Counts.{flag, flag-T, flag-F, T-flag, count}
 use Rattle.laws.proofs.Sets.{at-lt}
 use Rattle.laws.proofs.Runs.{channel-of}
 use Rattle.laws.proofs.Reaches.{play-dart}
 use Rattle.laws.proofs.Fragments.{unlaid, inside, length-inside}
+use Rattle.laws.proofs.Lists.{place-count}
 use Rattle.reach.specs.Floods.{Sized, joined, around, Flooded}
 use Rattle.reach.proofs.Meeting.{enters-in}
+use Rattle.reach.proofs.Around.{length-joined}
 use Rattle.fragment.specs.Fragments.{Loopless, seedPort, touchFrom, rising, Shut, Spread, Contacts}
 use Rattle.fragment.specs.Rounds.{twoOf}
 use Rattle.fragment.proofs.Spreading.{same-set, seed-only, inside-iff, inside-none, same-reach, reverse-first}
-use Rattle.fragment.proofs.Marking.{length-joined, joined-at}
+use Rattle.fragment.proofs.Marking.{joined-at}
 use Rattle.fragment.proofs.Touching.{length-touchFrom, rooted-contacts, single-rising, single-falling}
 
 pub inside-reached : (v : ℕ) (ends : List ℕ) (play lp : List Bool) (k : ℕ) → inside v ends play lp k ≡ reached v ends play (unlaid lp) (seedPort v ends lp k)
@@ -37,12 +39,6 @@ unfolding reached
 inside-reached v ends play lp k = ap (iter (larger ends (inPlay play) (unlaid lp)) v) (seed-only v ends play lp k)
 
 -- a number that stands in a list stands at one of its places
-count-at : (l : List ℕ) (i : ℕ) → i < length l → 1 ≤ count (getD l i 0) l
-unfolding count
-count-at [] i h = absurd (not-suc-le-zero h)
-count-at (x ∷ l) zero h = omega (arith, is-self x)
-count-at (x ∷ l) (suc i) h = omega (arith, count-at l i (omega arith))
-
 -- ---- a fragment spreads
 
 -- from its seed port, by a flood
@@ -94,7 +90,7 @@ module _ (v : ℕ) (ends : List ℕ) (play lp : List Bool) (sized : Sized v ends
   in-queue : (i : ℕ) → i < n → T (at (inside v ends play lp k) (getD queue i 0))
   in-queue i h =
       let z = getD (take n queue) i 0 in
-      let c : 1 ≤ count z (take n queue) = count-at (take n queue) i (omega (arith, length-take-le n queue (s .most))) in
+      let c : 1 ≤ count z (take n queue) = place-count (take n queue) i (omega (arith, length-take-le n queue (s .most))) in
       subst (λ (y : ℕ). T (at (inside v ends play lp k) y)) (getD-take n queue i 0 h) (T-flag (at (inside v ends play lp k) z) (omega (arith, listed-inside z)))
 
   pub spread-ports : (i : ℕ) → i < n → getD queue i 0 < v
@@ -159,11 +155,6 @@ module _ (v : ℕ) (ends : List ℕ) (play lp : List Bool) (sized : Sized v ends
     single-left e contacts r h c = record { most = h; list = c ∙ sym (single-both (none-seed e)); marked = s .marked }
 
 -- ---- two ends, written in order
-
-pub two-written : (out : List ℕ) (a b : ℕ) → 2 ≤ length out → take 2 (set (set out 0 a) 1 b) ≡ a ∷ b ∷ []
-two-written [] a b h = absurd (not-suc-le-zero h)
-two-written (x ∷ []) a b h = absurd (not-suc-le-zero {n = 0} (omega arith))
-two-written (x ∷ y ∷ l) a b h = refl
 
 module _ (ends : List ℕ) (k a b : ℕ) (first : a ≡ getD ends (2 * k) 0) (second : b ≡ getD ends (2 * k + 1) 0) where
   ends-read : rising (leaves ends (2 * k)) (enters ends (2 * k)) ≡ rising a b

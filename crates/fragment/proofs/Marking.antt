@@ -18,16 +18,15 @@ use Rattle.rules.specs.Lists.{any, at}
 use Rattle.rules.specs.Terms.{leaves, enters, laid}
 use Rattle.rules.specs.Ways.{inPlay}
 use Rattle.rules.specs.Laying.{Fragment, within, fragmentAt, settled}
-use Rattle.laws.proofs.Tests.{T-is, T-isnt, or-T, T-or₁, T-or₂, not-or, not-not}
+use Rattle.laws.proofs.Tests.{T-is, T-isnt, or-T, T-or₁, T-or₂, not-or, not-not, or-false, same-flag}
 use Rattle.laws.proofs.Lists.{All, all-weaken, all-snoc}
 use Rattle.laws.proofs.Sets.{at-lt}
 use Rattle.laws.proofs.Runs.{channel-of}
 use Rattle.laws.proofs.Fragments.{unlaid, inside, length-inside, inside-unlaid, within-cases, within-leaves, within-enters}
 use Rattle.reach.specs.Floods.{Sized, joined}
-use Rattle.reach.proofs.Seeking.{length-map-from}
-use Rattle.reach.proofs.Around.{at-joined}
+use Rattle.reach.proofs.Around.{at-joined, length-joined}
 use Rattle.fragment.specs.Fragments.{over, seedPort, Named, Marked, Shut}
-use Rattle.fragment.proofs.Spreading.{same-flag, seed-cases, seed-first, seed-second, seed-unlaid, inside-step, inside-back}
+use Rattle.fragment.proofs.Spreading.{seed-cases, seed-first, seed-second, seed-unlaid, inside-step, inside-back}
 
 -- ---- lists of fragments
 
@@ -41,20 +40,12 @@ or-assoc : (a b c : Bool) → (a || b || c) ≡ (a || (b || c))
 or-assoc true b c = refl
 or-assoc false b c = refl
 
-or-false : (a : Bool) → (a || false) ≡ a
-or-false true = refl
-or-false false = refl
-
 pub any-snoc : {A : Type 0} (g : A → Bool) (l : List A) (x : A) → any g (l ++ (x ∷ [])) ≡ (any g l || g x)
 unfolding any
 any-snoc g [] x = or-false (g x)
 any-snoc g (y ∷ l) x = ap (λ (b : Bool). g y || b) (any-snoc g l x) ∙ sym (or-assoc (g y) (any g l) (g x))
 
 -- ---- two sets joined
-
-pub length-joined : (s r : List Bool) → length (joined s r) ≡ length s
-unfolding joined
-length-joined s r = length-map-from (λ p. at s p || at r p) 0 (length s)
 
 pub joined-at : (s r : List Bool) → length r ≡ length s → (p : ℕ) → at (joined s r) p ≡ (at s p || at r p)
 unfolding at

@@ -16,13 +16,13 @@ use lib.ListN.{length, getD}
 use Rattle.rules.specs.Lists.{from, at}
 use Rattle.rules.specs.Terms.{leaves, enters, reverse}
 use Rattle.rules.specs.Laying.{Fragment, within, fragmentAt}
-use Rattle.laws.proofs.Tests.{eqb-yes, eqb-no, and-T, T-and, or-T, T-or₂}
+use Rattle.laws.proofs.Tests.{eqb-yes, eqb-no, and-T, T-and, or-T, T-or₂, same-flag}
 use Rattle.laws.proofs.Sets.{at-lt}
 use Rattle.laws.proofs.Runs.{reverse-reverse, channel-darts, channel-of}
 use Rattle.laws.proofs.Fragments.{inside, length-inside, inside-unlaid, within-play, within-reverse}
-use Rattle.reach.proofs.Seeking.{length-map-from, getD-map-from}
+use Rattle.laws.proofs.Seeking.{length-map-from, getD-map-from}
 use Rattle.fragment.specs.Fragments.{Spread}
-use Rattle.fragment.proofs.Spreading.{same-flag, reverse-first}
+use Rattle.fragment.proofs.Spreading.{reverse-first}
 use Rattle.fragment.proofs.Rising.{map-at}
 use Rattle.fragment.proofs.Marking.{joined-at}
 

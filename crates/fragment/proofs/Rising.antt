@@ -1,6 +1,6 @@
 -- Loops over numbers in a row: i, i + 1, .. up to n are i and those from i + 1 on; and a slice of flags that is written place by place.
 --   Written f n s i      the flags of s before place i are what f says, s having n places
--- from-cut, from-over, from-whole: one number at a time. written-..: the invariant of each loop that writes flags. map-false, map-at: two things that are written so.
+-- from-cut, from-over, from-whole: one number at a time. written-..: the invariant of each loop that writes flags. map-at: marks that are copied so.
 -- Assumes nothing.
 use mathlib.Core.Path.{_≡_, sym, ap, _∙_}
 use mathlib.Core.Logic.{_≢_, ⊎-elim}
@@ -9,11 +9,11 @@ use mathlib.Core.List.{List, [], _∷_, map}
 use Prim.Native.Nat.{ℕ, suc, _+_, _-_, _≤_, _<_}
 use native.Mathlib.Nat.{not-suc-le-zero, zero-add, sub-zero}
 use native.Mathlib.Omega.{arith}
-use lib.ListN.{length, getD, set, replicate, length-set, length-replicate, getD-replicate}
+use lib.ListN.{length, getD, set, length-set}
 use lib.Seq.{getD-set-same, getD-set-other, ext-getD}
 use Rattle.rules.specs.Lists.{from, at}
 use Rattle.laws.proofs.Counts.{is-cases, is-apart}
-use Rattle.reach.proofs.Seeking.{length-map-from, getD-map-from}
+use Rattle.laws.proofs.Seeking.{length-map-from, getD-map-from}
 
 -- ---- numbers in a row
 
@@ -62,13 +62,6 @@ unfolding at
 written-end f n s i w h =
     ext-getD false s (map f (from 0 n)) (w .size ∙ sym (length-map-from f 0 n))
     (λ k b. w .done k (omega (arith, w .size)) ∙ ap f (sym (zero-add k)) ∙ sym (getD-map-from f 0 n k false (omega (arith, w .size))))
-
-pub map-false : (n : ℕ) → map (λ (p : ℕ). false) (from 0 n) ≡ replicate n false
-map-false n =
-    ext-getD false (map (λ (p : ℕ). false) (from 0 n)) (replicate n false) (length-map-from (λ p. false) 0 n ∙ sym (length-replicate n false))
-    (λ k b.
-    let h : k < n = omega (arith, length-map-from (λ (p : ℕ). false) 0 n) in
-    getD-map-from (λ p. false) 0 n k false h ∙ sym (getD-replicate n k false false h))
 
 pub map-at : (s : List Bool) → map (at s) (from 0 (length s)) ≡ s
 unfolding at

@@ -16,7 +16,7 @@ use Rattle.rules.specs.Lists.{at}
 use Rattle.rules.specs.Terms.{leaves, enters, reverse}
 use Rattle.rules.specs.Ways.{only, iter, larger, inPlay, reached}
 use Rattle.rules.specs.Laying.{seed}
-use Rattle.laws.proofs.Tests.{cond-cases, T-is, T-isnt}
+use Rattle.laws.proofs.Tests.{cond-cases, T-is, T-isnt, same-flag}
 use Rattle.laws.proofs.Sets.{at-none, length-only, iter-length}
 use Rattle.laws.proofs.Trails.{leaves-reverse, enters-reverse}
 use Rattle.laws.proofs.Reaches.{Whole, whole-of, play-dart, play-reverse, Way, Linked, reached-from, reached-iff, length-larger}
@@ -25,10 +25,6 @@ use Rattle.reach.specs.Floods.{Sized}
 use Rattle.fragment.specs.Fragments.{seedPort, Shut}
 
 -- ---- two sets with the same ports
-
-pub same-flag : (a b : Bool) → (T a → T b) → (T b → T a) → a ≡ b
-same-flag true b f g = sym (T-is b (f tt))
-same-flag false b f g = sym (T-isnt b g)
 
 pub same-set : (s r : List Bool) → length s ≡ length r → ((p : ℕ) → T (at s p) → T (at r p)) → ((p : ℕ) → T (at r p) → T (at s p)) → s ≡ r
 unfolding at

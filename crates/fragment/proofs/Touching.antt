@@ -16,9 +16,9 @@ use Rattle.rules.specs.Lists.{from, any, keep, at}
 use Rattle.rules.specs.Terms.{leaves, enters, reverse, dartsAt}
 use Rattle.rules.specs.Ways.{inPlay}
 use Rattle.rules.specs.Laying.{fragmentAt, contactsOf}
-use Rattle.laws.proofs.Tests.{cond-cases, T-is, T-isnt, eq→eqb, and-T, T-and}
+use Rattle.laws.proofs.Tests.{cond-cases, T-is, T-isnt, eq→eqb, and-T, T-and, same-flag}
 use Rattle.laws.proofs.Counts.{flag, flag-T, T-flag, is, is-self, is-cases, is-apart, count}
-use Rattle.laws.proofs.Lists.{any-T, T-any, keep-T, T-keep, count-from}
+use Rattle.laws.proofs.Lists.{any-T, T-any, count-from}
 use Rattle.laws.proofs.Sets.{at-set-same, at-set-keeps, at-set-from, at-none, Sub}
 use Rattle.laws.proofs.Runs.{reverse-channel, channel-darts, channel-of}
 use Rattle.laws.proofs.Trails.{leaves-reverse, enters-reverse}
@@ -26,19 +26,11 @@ use Rattle.laws.proofs.Reaches.{play-dart, play-reverse}
 use Rattle.laws.proofs.Fragments.{inside, inside-unlaid, ofFragment, of-cases, of-own, of-leaves, of-play, of-reverse}
 use Rattle.reach.specs.Floods.{Sized}
 use Rattle.reach.proofs.Meeting.{enters-in}
+use Rattle.reach.proofs.Flooding.{darts-leave, leaving-darts}
 use Rattle.fragment.specs.Fragments.{seedPort, touch, touchAll, touchFrom}
-use Rattle.fragment.proofs.Spreading.{same-flag, seed-cases, seed-first, seed-second, seed-neither, inside-iff, inside-none}
+use Rattle.fragment.proofs.Spreading.{seed-cases, seed-first, seed-second, seed-neither, inside-iff, inside-none}
 
 -- ---- the darts of a port
-
-darts-leave : (ends : List ℕ) (p d : ℕ) → 1 ≤ count d (dartsAt ends p) → leaves ends d ≡ p
-unfolding dartsAt
-darts-leave ends p d h = eqb→eq (leaves ends d) p (keep-T (λ e. eqb (leaves ends e) p) (from 0 (length ends)) d h)
-
-leaving-darts : (ends : List ℕ) (p d : ℕ) → d < length ends → leaves ends d ≡ p → 1 ≤ count d (dartsAt ends p)
-unfolding dartsAt
-leaving-darts ends p d h e =
-    T-keep (λ k. eqb (leaves ends k) p) (from 0 (length ends)) d (count-from d 0 (length ends) (omega arith) (omega arith)) (eq→eqb (leaves ends d) p e)
 
 -- ---- what is touched
 

@@ -12,6 +12,10 @@ ghost use Rattle.reach.specs.Floods.{Sized, Tables};
 ghost use Rattle.land.specs.Walks.{lands, Walkable};
 ghost use Rattle.fragment.specs.Fragments.{Wired, over, seedPort, touch, touchAll, touchFrom, rising, Marked, Shut, Lent, Spread, Contacts};
 ghost use Rattle.fragment.specs.Rounds.{twoOf, weighed, preferred, laidBy, stateOf, verdictOf, Next, Weighs};
+use numbers::mark_all;
+use numbers::narrow;
+use numbers::reverse;
+use numbers::wide;
 use plate::Plate;
 
 // What the next round says: all channels in play are laid; the fragment of that name has no admissible land; or a path is to be laid.
@@ -46,32 +50,6 @@ struct Held {
     land: usize,
 }
 
-// The number x as an index.
-fn wide(x: u16) -> usize
-    ensures { λ r. ⌜ (r ≡ x) × (r < 65536) ⌝ }
-{
-    x as usize
-}
-
-// The number x, which is below 65,536, in 16 bits.
-fn narrow(x: usize) -> u16
-    requires { ⌜ x < 65536 ⌝ }
-    ensures { λ r. ⌜ r ≡ x ⌝ }
-{
-    x as u16
-}
-
-// Takes every mark away.
-fn clear(marks: &mut [bool])
-    ensures { λ _. ⌜ now (marks .exit) ≡ replicate (length (now (marks .entry))) false ⌝ }
-{
-    let mut i = 0;
-    while i < marks.len() {
-        marks[i] = false;
-        i += 1;
-    }
-}
-
 // Dart d has a turn.
 fn is_laid(turns: &[u16], d: usize) -> bool
     requires { ⌜ d < length (now turns) ⌝ }
@@ -86,7 +64,7 @@ pub fn laid_ports(ends: &[u16], turns: &[u16], laid: &mut [bool])
     requires darts { ⌜ length (now turns) ≡ length (now ends) ⌝ }
     ensures { λ _. ⌜ now (laid .exit) ≡ laidPorts (now (ends .entry)) (now (turns .entry)) (from 0 (length (now (ends .entry)))) (replicate (length (now (laid .entry))) false) ⌝ }
 {
-    clear(laid);
+    mark_all(laid, false);
     let mut d = 0;
     while d < ends.len() {
         if is_laid(turns, d) {
@@ -178,7 +156,7 @@ fn touch(ends: &[u16], play: &[bool], laid: &[bool], touched: &mut [bool], d: us
     if !play[k] {
         return;
     }
-    let e = reach::reverse(d);
+    let e = reverse(d);
     let q = wide(ends[e]);
     if !laid[q] {
         return;
@@ -322,7 +300,7 @@ fn contacts_of(
     if n == 0 {
         return both_ends(ends, contacts, k);
     }
-    clear(touched);
+    mark_all(touched, false);
     touch_from(ends, first, more, play, laid, touched, queue, n);
     collect(touched, contacts)
 }

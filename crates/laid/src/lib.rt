@@ -11,6 +11,7 @@ ghost use Rattle.land.specs.Walks.{lands as walked, Walkable};
 ghost use Rattle.rounds.specs.Stories.{saidBy};
 ghost use Rattle.laid.specs.Answers.{laidAnswer};
 ghost use Rattle.laid.specs.Sheets.{Fit, Sheet};
+use numbers::fill;
 use plate::Plate;
 use plate::Refusal;
 use rounds::End;
@@ -65,10 +66,10 @@ fn write_out(
 {
     let at = land::write_lands(turns, firsts, lens, count, lands);
     let darts = lands.len();
-    land::fill(lands, at, darts, Plate::MISSING);
+    fill(lands, at, darts, Plate::MISSING);
     copy(lens, count, lengths);
     let most = lengths.len();
-    land::fill(lengths, count, most, 0);
+    fill(lengths, count, most, 0);
 }
 
 // Lays a plate in the slices lent, and writes its lands and their lengths.

@@ -5,7 +5,7 @@
 -- The last dart of a stretch and the first of a land that is listed: last-since, sought-last, first-listed. A buffer that is written and then filled: filled-of.
 -- Assumes nothing.
 use mathlib.Core.Path.{_≡_, refl, sym, ap, _∙_, subst}
-use mathlib.Core.Logic.{_≢_, _⊎_, inl, inr, ⊎-elim}
+use mathlib.Core.Logic.{_≢_, ⊎-elim}
 use mathlib.Core.Bool.{Bool, true, false, cond}
 use mathlib.Core.List.{List, [], _∷_, _++_, map}
 use Prim.Native.Nat.{ℕ, zero, suc, _+_, _-_, _%_, _<_, _≤_}
@@ -14,16 +14,16 @@ use native.Mathlib.Decide.{decLt}
 use native.Mathlib.Numerals.{add-one}
 use native.Mathlib.Omega.{arith}
 use borrow.Author.Tests.{lt-ltb}
-use lib.Dec.{T, eqb, ltb, eqb→eq}
+use lib.Dec.{T, ltb}
 use lib.ListN.{length, getD, take, drop, replicate, length-append, length-drop}
 use lib.Seq.{drop-cons, drop-drop, drop-append-add, take-append-seam, getD-take, length-take-le}
 use Rattle.rules.specs.Lists.{all}
-use Rattle.rules.specs.Terms.{missing, next, laid, visits, least, turnTo, listed}
+use Rattle.rules.specs.Terms.{missing, next, laid, visits, least, listed}
 use Rattle.rules.specs.Laying.{first, last, before, since, admissible, filled}
-use Rattle.laws.proofs.Tests.{cond-cases, neqb→ne}
-use Rattle.laws.proofs.Counts.{T-flag, is, is-self, is-not, count}
+use Rattle.laws.proofs.Tests.{cond-cases}
+use Rattle.laws.proofs.Counts.{T-flag, is, is-self, count}
 use Rattle.laws.proofs.Lists.{All}
-use Rattle.laws.proofs.Runs.{Run, Land, land-turn}
+use Rattle.laws.proofs.Runs.{Run, Land, land-turn, least-in, turnTo-first}
 use Rattle.laws.proofs.Links.{laid-lt}
 use Rattle.laws.proofs.Split.{before-since, since-head}
 use Rattle.laws.proofs.Sound.{countAll, Sound}
@@ -309,24 +309,6 @@ sought-last ends p d l r w h = w .last ∙ go (before ends p l) (omega (arith, w
     go [] k = absurd (not-suc-le-zero k)
     go (e ∷ b) k = refl
 
-least-in : (m : ℕ) (l : List ℕ) → (least m l ≡ m) ⊎ (1 ≤ count (least m l) l)
-unfolding least count
-least-in m [] = inl refl
-least-in m (d ∷ l) = go (ltb d m) (least-in (cond (ltb d m) d m) l)
-  where
-    go : (b : Bool) → (least (cond b d m) l ≡ cond b d m) ⊎ (1 ≤ count (least (cond b d m) l) l) → (least (cond b d m) l ≡ m) ⊎ (1 ≤ is (least (cond b d m) l) d + count (least (cond b d m) l) l)
-    go true (inl e) = inr (omega (arith, is-self d, ap (λ (z : ℕ). is z d) e))
-    go true (inr k) = inr (omega arith)
-    go false (inl e) = inl e
-    go false (inr k) = inr (omega arith)
-
-turn-first : (m : ℕ) (l r : List ℕ) → 1 ≤ count m r → first (turnTo m l r) ≡ m
-unfolding turnTo first count
-turn-first m l [] h = absurd (not-suc-le-zero h)
-turn-first m l (d ∷ r) h =
-    cond-cases (λ (k : List ℕ). first k ≡ m) (eqb d m) (λ t. eqb→eq d m t)
-    (λ t. turn-first m (l ++ (d ∷ [])) r (omega (arith, is-not m d (λ e. neqb→ne d m t (sym e)))))
-
 smallest-in : (d : ℕ) (l : List ℕ) → d < missing → 1 ≤ count (least missing (d ∷ l)) (d ∷ l)
 unfolding least count
 smallest-in d l h =
@@ -339,7 +321,7 @@ smallest-in d l h =
 -- a land is listed from its smallest dart
 pub first-listed : (d : ℕ) (l : List ℕ) → d < missing → first (listed (d ∷ l)) ≡ least missing (d ∷ l)
 unfolding listed
-first-listed d l h = turn-first (least missing (d ∷ l)) [] (d ∷ l) (smallest-in d l h)
+first-listed d l h = turnTo-first (least missing (d ∷ l)) [] (d ∷ l) (smallest-in d l h)
 
 -- ---- a buffer
 

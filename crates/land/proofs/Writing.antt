@@ -1,19 +1,18 @@
--- What a lent buffer holds while lands are written into it, and while it is filled; o₀ is the buffer before, o now.
+-- What a lent buffer holds while lands are written into it; o₀ is the buffer before, o now.
 --   Writing t d n o₀ at o e k      k of the n darts from d on stand in it from index `at` on, and e is the next
 --   Joining t fs ns n o₀ o at i    the darts of the first i of n lands stand in it up to index `at`
---   Filling o₀ from to mark o i    the mark stands in it from index `from` up to i
--- write-.., join-.., fill-..: start, turn and end of the loops of `write_land`, `write_lands` and `fill`; write-size, join-size, fill-size: its length does not change.
+-- write-.., join-..: start, turn and end of the loops of `write_land` and `write_lands`; write-size, join-size: its length does not change.
 -- Assumes nothing.
 use mathlib.Core.Path.{_≡_, refl, sym, ap, _∙_, subst}
-use mathlib.Core.List.{List, [], _∷_, _++_}
-use Prim.Native.Nat.{ℕ, suc, _+_, _-_, _<_, _≤_}
-use native.Mathlib.Nat.{add-zero}
+use mathlib.Core.List.{List, [], _++_}
+use Prim.Native.Nat.{ℕ, _+_, _-_, _<_, _≤_}
 use native.Mathlib.Numerals.{add-one}
 use native.Mathlib.Omega.{arith}
-use lib.ListN.{length, getD, set, take, drop, replicate, length-append, length-drop, length-replicate, getD-replicate, drop-of-length-le}
-use lib.Seq.{paste, paste-zero, paste-suc, length-paste, length-take-le, getD-drop, drop-drop, take-all, take-add, take-at, drop-at, take-length}
+use lib.ListN.{length, getD, set, take, drop, length-append, length-drop, drop-of-length-le}
+use lib.Seq.{paste, paste-zero, paste-suc, length-paste, length-take-le, drop-drop, take-all, take-add, take-at, drop-at, take-length}
 use Rattle.rules.specs.Lists.{concat}
 use Rattle.rules.specs.Terms.{next}
+use Rattle.laws.proofs.Lists.{drop-head}
 use Rattle.land.specs.Walks.{landFrom, lands, Darts, Walkable, Written}
 use Rattle.land.proofs.Walking.{from-step, from-start, Left, left-start, left-step}
 use Rattle.land.proofs.Laws.{length-from, length-lands, lands-cut}
@@ -32,12 +31,6 @@ pub write-size : (t : List ℕ) (d n : ℕ) (o₀ : List ℕ) (at : ℕ) (o : Li
 write-size t d n o₀ at o e k h w =
     ap length (w .held) ∙ length-paste o₀ at (landFrom t n d) k (omega (arith, w .left .most)) (omega (arith, w .left .most, length-from t n d))
 
-head : (l : List ℕ) (k x : ℕ) (r : List ℕ) → drop k l ≡ x ∷ r → (getD l k 0 ≡ x) × (drop (k + 1) l ≡ r)
-head l k x r e = (
-  ap (λ (i : ℕ). getD l i 0) (sym (add-zero k)) ∙ sym (getD-drop k l 0 0) ∙ ap (λ (m : List ℕ). getD m 0 0) e,
-  sym (drop-drop 1 k l) ∙ ap (drop 1) e,
-)
-
 pub write-step : (t : List ℕ) (d n : ℕ) (o₀ : List ℕ) (at : ℕ) (o : List ℕ) (e k x e′ : ℕ) → at + n ≤ length o₀ → k < n → x ≡ e → e′ ≡ next t e
     → Writing t d n o₀ at o e k → Writing t d n o₀ at (set o (at + k) x) e′ (k + 1)
 write-step t d n o₀ at o e k x e′ room h v s w = record {
@@ -51,7 +44,7 @@ write-step t d n o₀ at o e k x e′ room h v s w = record {
 }
   where
     here : (getD (landFrom t n d) k 0 ≡ e) × (drop (k + 1) (landFrom t n d) ≡ landFrom t (n - (k + 1)) e′)
-    here = head (landFrom t n d) k e (landFrom t (n - (k + 1)) e′) (w .rest ∙ from-step t n k e e′ h s)
+    here = drop-head (landFrom t n d) k e (landFrom t (n - (k + 1)) e′) (w .rest ∙ from-step t n k e e′ h s)
 
 pub write-end : (t : List ℕ) (d n : ℕ) (o₀ : List ℕ) (at : ℕ) (o : List ℕ) (e k : ℕ) → n ≤ k → Writing t d n o₀ at o e k
     → (at + k ≡ at + n) × (o ≡ take at o₀ ++ landFrom t n d ++ drop (at + n) o₀)
@@ -134,61 +127,3 @@ module _ (t fs ns : List ℕ) (n : ℕ) (o₀ o : List ℕ) (at i : ℕ) (w : Wa
         held = j .held ∙ ap (λ (k : ℕ). take k (concat (lands t fs ns n)) ++ drop k o₀) all
             ∙ ap (λ (m : List ℕ). m ++ drop (length (concat (lands t fs ns n))) o₀) (take-length (concat (lands t fs ns n)));
       }
-
--- ---- a mark, from one index up to another
-
-pub record Filling (o₀ : List ℕ) (from to mark : ℕ) (o : List ℕ) (i : ℕ) : Type 0 where
-  pub low : from ≤ i
-  pub most : i ≤ to
-  pub held : o ≡ paste o₀ from (replicate (to - from) mark) (i - from)
-
-pub fill-start : (o : List ℕ) (from to mark : ℕ) → from ≤ to → Filling o from to mark o from
-fill-start o from to mark h = record {
-  low = omega arith;
-  most = h;
-  held = paste-zero o from (replicate (to - from) mark) ∙ ap (paste o from (replicate (to - from) mark)) none;
-}
-  where
-    none : 0 ≡ from - from
-    none = omega arith
-
-pub fill-size : (o₀ : List ℕ) (from to mark : ℕ) (o : List ℕ) (i : ℕ) → to ≤ length o₀ → Filling o₀ from to mark o i → length o ≡ length o₀
-fill-size o₀ from to mark o i h w =
-    ap length (w .held)
-    ∙ length-paste o₀ from (replicate (to - from) mark) (i - from) (omega (arith, w .low, w .most)) (omega (arith, w .most, length-replicate (to - from) mark))
-
-pub fill-step : (o₀ : List ℕ) (from to mark : ℕ) (o : List ℕ) (i : ℕ) → to ≤ length o₀ → i < to → Filling o₀ from to mark o i → Filling o₀ from to mark (set o i mark) (i + 1)
-fill-step o₀ from to mark o i room h w = record {
-  low = omega (arith, w .low);
-  most = omega arith;
-  held =
-      ap (λ (m : List ℕ). set m i mark) (w .held)
-      ∙ ap (λ (j : ℕ). set (paste o₀ from m (i - from)) j mark) there
-      ∙ ap (set (paste o₀ from m (i - from)) (from + (i - from))) (sym (getD-replicate (to - from) (i - from) mark 0 (omega (arith, w .low))))
-      ∙ paste-suc o₀ from m (i - from) 0 (omega (arith, w .low)) (omega (arith, w .low, length-replicate (to - from) mark))
-      ∙ ap (paste o₀ from m) more;
-}
-  where
-    m : List ℕ
-    m = replicate (to - from) mark
-
-    there : i ≡ from + (i - from)
-    there = omega (arith, w .low)
-
-    more : suc (i - from) ≡ i + 1 - from
-    more = omega (arith, w .low)
-
-pub fill-end : (o₀ : List ℕ) (from to mark : ℕ) (o : List ℕ) (i : ℕ) → to ≤ i → Filling o₀ from to mark o i → o ≡ take from o₀ ++ replicate (to - from) mark ++ drop to o₀
-fill-end o₀ from to mark o i h w =
-    w .held ∙ ap (λ (j : ℕ). paste o₀ from m (j - from)) all
-    ∙ ap (λ (r : List ℕ). take from o₀ ++ r ++ drop (from + (to - from)) o₀) (take-all (to - from) m (omega (arith, length-replicate (to - from) mark)))
-    ∙ ap (λ (j : ℕ). take from o₀ ++ m ++ drop j o₀) back
-  where
-    m : List ℕ
-    m = replicate (to - from) mark
-
-    all : i ≡ to
-    all = omega (arith, w .most)
-
-    back : from + (to - from) ≡ to
-    back = omega (arith, w .low, w .most)

@@ -2,42 +2,22 @@
 ghost use mathlib.Core.Path.{_≡_};
 ghost use mathlib.Core.Bool.{cond};
 ghost use mathlib.Core.List.{[], _∷_, _++_};
-ghost use Prim.Native.Nat.{_+_, _-_, _<_, _≤_};
-ghost use lib.ListN.{length, take, drop, set, replicate};
+ghost use Prim.Native.Nat.{_+_, _<_, _≤_};
+ghost use lib.ListN.{length, take, drop, set};
 ghost use lib.Dec.{T, ltb};
 ghost use Rattle.rules.specs.Lists.{concat};
 ghost use Rattle.rules.specs.Terms.{reverse, missing, next, least, visits};
 ghost use Rattle.rules.specs.Laying.{back, link};
 ghost use Rattle.land.specs.Walks.{landFrom, nextBy, lands, firstFit, Darts, Walkable, Sought, Written};
+use numbers::narrow;
+use numbers::reverse;
+use numbers::wide;
 
 // What a search for a port tells: the dart that leaves it, the dart before, and how many stand before.
 pub struct Seen {
     pub dart: usize,
     pub last: usize,
     pub steps: usize,
-}
-
-// The number x as an index.
-fn wide(x: u16) -> usize
-    ensures { λ r. ⌜ (r ≡ x) × (r < 65536) ⌝ }
-{
-    x as usize
-}
-
-// The number x, which is below 65,536, in 16 bits.
-fn narrow(x: usize) -> u16
-    requires { ⌜ x < 65536 ⌝ }
-    ensures { λ r. ⌜ r ≡ x ⌝ }
-{
-    x as u16
-}
-
-// The reverse of dart d.
-pub fn reverse(d: usize) -> usize
-    requires { ⌜ d < 65536 ⌝ }
-    ensures { λ r. ⌜ r ≡ reverse d ⌝ }
-{
-    d + 1 - 2 * (d % 2)
 }
 
 // The dart with which a land continues after d: the turn of d's reverse.
@@ -234,16 +214,4 @@ pub fn write_lands(
         i += 1;
     }
     at
-}
-
-// Puts the mark at each index from `from` up to `to`.
-pub fn fill(out: &mut [u16], from: usize, to: usize, mark: u16)
-    requires { ⌜ (from ≤ to) × (to ≤ length (now out)) ⌝ }
-    ensures { λ _. ⌜ now (out .exit) ≡ take from (now (out .entry)) ++ replicate (to - from) mark ++ drop to (now (out .entry)) ⌝ }
-{
-    let mut i = from;
-    while i < to {
-        out[i] = mark;
-        i += 1;
-    }
 }

@@ -14,7 +14,7 @@ use mathlib.Core.Path.{_≡_, refl, sym, _∙_, ap, subst}
 use mathlib.Core.Logic.{_≢_, _⊎_, inl, inr, ⊎-elim}
 use mathlib.Core.Bool.{Bool, true, false, not, _&&_, _||_}
 use mathlib.Core.List.{List, [], _∷_}
-use Prim.Native.Nat.{ℕ, zero, suc, _+_, _*_, _/_, _%_, _≤_, _<_}
+use Prim.Native.Nat.{ℕ, zero, suc, _+_, _*_, _/_, _≤_, _<_}
 use native.Mathlib.Nat.{not-suc-le-zero, eq-zero-or-pos}
 use native.Mathlib.Omega.{arith}
 use lib.Dec.{T, eqb, eqb→eq}
@@ -26,8 +26,8 @@ use Rattle.rules.specs.Refusals.{given, Plate, readPlate}
 use Rattle.rules.specs.Laying.{State, Word, FLAT, STUCK, PARTIAL, Outcome, Verdict, flat, stuck, ready, Choice, lay, allLaid, stuckOr, judge, choices, without, chosen, rounds, start, firstChannel, laying, wholePlate, laidOut, landsOfFlat}
 use Rattle.laws.proofs.Tests.{cond-cases, eq→eqb, and-T, T-and, or-T}
 use Rattle.laws.proofs.Counts.{length-le, length-same, flag, flag-T, T-flag, is, is-self, is-cases, is-apart, is-le, count, count-append, zero-of, sum, length-sum, pigeon}
-use Rattle.laws.proofs.Lists.{any-T, T-any, all-T, keep-le, keep-T, T-keep, count-from, from-lt, from-once}
-use Rattle.laws.proofs.Runs.{Land, channel-darts}
+use Rattle.laws.proofs.Lists.{any-T, T-any, all-T, keep-le, keep-T, T-keep, count-from, from-lt, from-once, length-from}
+use Rattle.laws.proofs.Runs.{Land, channel-darts, same-channel}
 use Rattle.laws.proofs.Links.{laid-lt}
 use Rattle.laws.proofs.Trails.{leaves-reverse}
 use Rattle.laws.proofs.Reaches.{play-dart, play-reverse, Way, Linked, linked-join, linked-back}
@@ -58,11 +58,6 @@ count-rows f n z l = go (f z) refl
 
 pub rows-lt : (f : ℕ → Bool) (n z : ℕ) → 1 ≤ count z (keep f (from 0 n)) → z < n
 rows-lt f n z h = omega (arith, from-lt z 0 n (omega (arith, keep-le f (from 0 n) z)))
-
-pub length-from : (i n : ℕ) → length (from i n) ≡ n
-unfolding from
-length-from i zero = refl
-length-from i (suc n) = ap suc (length-from (suc i) n)
 
 pub rows-most : (f : ℕ → Bool) (n : ℕ) → length (keep f (from 0 n)) ≤ n
 rows-most f n = pigeon n (keep f (from 0 n)) (rows-lt f n) (λ z. omega (arith, keep-le f (from 0 n) z, from-once z 0 n))
@@ -163,11 +158,6 @@ pub record Joined (np : ℕ) (ps : List ℕ) (e : ℕ) (L C : List ℕ) : Type 0
   pub inC : (z : ℕ) → 1 ≤ count z C → z < e
   pub oneC : (z : ℕ) → count z C ≤ 1
   pub ends : (d : ℕ) → 1 ≤ count (d / 2) C → 1 ≤ count (leaves ps d) L
-
--- darts of one channel
-same-channel : (c d : ℕ) → c / 2 ≡ d / 2 → (c ≡ d) ⊎ (c ≡ reverse d)
-unfolding reverse
-same-channel c d e = ⊎-elim (λ a. ⊎-elim (λ b. inl (omega arith)) (λ b. inr (omega arith)) (eq-zero-or-pos (d % 2))) (λ a. ⊎-elim (λ b. inr (omega arith)) (λ b. inl (omega arith)) (eq-zero-or-pos (d % 2))) (eq-zero-or-pos (c % 2))
 
 -- the lowest of 0, .., n − 1 that L lacks, if it lacks one
 lacks : (L : List ℕ) (n : ℕ) → ((q : ℕ) × (q < n) × (count q L ≡ 0)) ⊎ ((q : ℕ) → q < n → 1 ≤ count q L)

@@ -167,7 +167,7 @@ pub pigeon : (n : ℕ) (l : List ℕ) → ((z : ℕ) → 1 ≤ count z l → z <
 pigeon n l h u = omega (arith, length-sum n l h, sum-le n l u)
 
 -- ---- lengths
-sum-less : (n : ℕ) (l m : List ℕ) → ((z : ℕ) → count z l ≤ count z m) → sum n l ≤ sum n m
+pub sum-less : (n : ℕ) (l m : List ℕ) → ((z : ℕ) → count z l ≤ count z m) → sum n l ≤ sum n m
 unfolding sum
 sum-less zero l m h = omega arith
 sum-less (suc n) l m h = omega (arith, sum-less n l m h, h n)

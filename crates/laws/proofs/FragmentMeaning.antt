@@ -32,7 +32,7 @@ use Rattle.laws.proofs.Tests.{cond-cases, T-isnt, or-T, T-or₁, T-or�
 use Rattle.laws.proofs.Counts.{is, is-self, is-cases, is-apart, count}
 use Rattle.laws.proofs.Lists.{All, all-T, T-all, all-snoc, all-weaken, any-append₁, any-append₂, keep-all}
 use Rattle.laws.proofs.Sets.{at-lt, at-none, only-is, Sub, sub-size}
-use Rattle.laws.proofs.Runs.{reverse-reverse, reverse-channel, channel-darts, channel-of}
+use Rattle.laws.proofs.Runs.{reverse-channel, channel-darts, channel-of, same-channel}
 use Rattle.laws.proofs.Trails.{leaves-reverse, enters-reverse}
 use Rattle.laws.proofs.Reaches.{Wide, Way, Linked, linked-join, linked-back, play-reverse, reached-from}
 use Rattle.laws.proofs.Fragments.{laidPorts-from, within-play, within-cases, within-own, within-leaves, within-enters, within-reverse, unlaid, inside, inside-unlaid, length-inside, Single, Rooted, fragment-kind, at-unlaid, root-inside, rooted-closed, inside-holds, of-own, contacts-from, contacts-adds}
@@ -115,14 +115,6 @@ map-snoc {B = B} f (y ∷ l) x = ap (λ (m : List B). f y ∷ m) (map-snoc f l x
 sets-equal : (s r : List Bool) → length s ≡ length r → Sub s r → Sub r s → s ≡ r
 sets-equal s r e h k =
     ⊎-elim (λ q. q) (λ a. ⊎-elim sym (λ b. absurd (not-suc-le-zero {n = 0} (omega arith))) (sub-size r s (sym e) k)) (sub-size s r e h)
-
--- the two darts of a channel
-same-channel : (d e : ℕ) → d / 2 ≡ e / 2 → (d ≡ e) ⊎ (d ≡ reverse e)
-same-channel d e h =
-    ⊎-elim
-    (λ p. ⊎-elim (λ q. inl (p ∙ sym q)) (λ q. inr (p ∙ sym (reverse-reverse (2 * (e / 2))) ∙ ap reverse (sym q))) (channel-darts e (e / 2) refl))
-    (λ p. ⊎-elim (λ q. inr (p ∙ ap reverse (sym q))) (λ q. inl (p ∙ sym q)) (channel-darts e (e / 2) refl))
-    (channel-darts d (e / 2) h)
 
 -- ---- the two kinds
 

@@ -11,23 +11,23 @@
 -- laid with at most n paths: each land begins with its smallest dart, and the lands of the turns are the lands kept, in order of first dart.
 -- Assumes nothing.
 use mathlib.Core.Path.{_≡_, refl, sym, _∙_, ap, subst}
-use mathlib.Core.Logic.{_≢_, _⊎_, inl, inr, ⊎-elim}
+use mathlib.Core.Logic.{_≢_, ⊎-elim}
 use mathlib.Core.Bool.{Bool, cond, not, _||_}
 use mathlib.Core.List.{List, [], _∷_, _++_, append-nil}
 use Prim.Native.Nat.{ℕ, zero, suc, _+_, _≤_, _<_}
 use native.Mathlib.Nat.{not-suc-le-zero, eq-zero-or-pos}
 use native.Mathlib.Decide.{decLt}
 use native.Mathlib.Omega.{arith}
-use lib.Dec.{T, eqb, eqb→eq, eqb-refl, ltb, ltb→lt, lt→ltb, nltb→le, T-not, not-T}
+use lib.Dec.{T, eqb, ltb, ltb→lt, lt→ltb, nltb→le, T-not, not-T}
 use lib.ListN.{length, getD, set}
 use Rattle.rules.specs.Lists.{from, any, keep, has}
-use Rattle.rules.specs.Terms.{missing, laid, walk, least, turnTo, listed, gather, landsOf}
+use Rattle.rules.specs.Terms.{missing, laid, walk, least, listed, gather, landsOf}
 use Rattle.rules.specs.Refusals.{given, Plate, readPlate}
 use Rattle.rules.specs.Laying.{State, back, first, lay, splitLands, start, laying, laidOut, wholePlate, Choice}
-use Rattle.laws.proofs.Tests.{cond-cases, T-is, T-isnt, eqb-yes, eqb-no, neqb→ne, or-T, T-or₁, T-or₂, not-or, not-not}
-use Rattle.laws.proofs.Counts.{flag, flag-T, flag-F, T-flag, flag-le, is, is-self, is-cases, count, count-head}
-use Rattle.laws.proofs.Lists.{All, all-snoc, all-weaken, any-T, T-any}
-use Rattle.laws.proofs.Runs.{Land, count-listed}
+use Rattle.laws.proofs.Tests.{cond-cases, T-is, T-isnt, eqb-yes, eqb-no, or-T, T-or₁, T-or₂, not-or, not-not}
+use Rattle.laws.proofs.Counts.{flag, flag-T, flag-F, T-flag, flag-le, count, count-head}
+use Rattle.laws.proofs.Lists.{All, all-snoc, all-weaken, has-count, count-has}
+use Rattle.laws.proofs.Runs.{Land, count-listed, least-le, least-low, least-in, turnTo-first}
 use Rattle.laws.proofs.Links.{laid-lt}
 use Rattle.laws.proofs.Sound.{countAll, all-keep, Sound}
 use Rattle.laws.proofs.Choices.{rounds-keep}
@@ -36,34 +36,6 @@ use Rattle.laws.proofs.Reading.{accepted, layable, kept-laidOut}
 use Rattle.laws.proofs.Afresh.{afresh}
 
 -- ---- a cycle listed from its smallest dart
-
-least-le : (m : ℕ) (l : List ℕ) → least m l ≤ m
-unfolding least
-least-le m [] = omega arith
-least-le m (d ∷ l) = cond-cases (λ (k : ℕ). least k l ≤ m) (ltb d m) (λ t. omega (arith, least-le d l, ltb→lt d m t)) (λ t. least-le m l)
-
-least-low : (m : ℕ) (l : List ℕ) (z : ℕ) → 1 ≤ count z l → least m l ≤ z
-unfolding least count
-least-low m [] z h = absurd (not-suc-le-zero h)
-least-low m (d ∷ l) z h =
-    ⊎-elim
-    (λ e. cond-cases (λ (k : ℕ). least k l ≤ z) (ltb d m) (λ t. omega (arith, least-le d l)) (λ t. omega (arith, least-le m l, nltb→le d m t)))
-    (λ n. least-low (cond (ltb d m) d m) l z (omega arith)) (is-cases z d)
-
-least-in : (m : ℕ) (l : List ℕ) → (least m l ≡ m) ⊎ (1 ≤ count (least m l) l)
-unfolding least count
-least-in m [] = inl refl
-least-in m (d ∷ l) =
-    cond-cases (λ (k : ℕ). (least k l ≡ m) ⊎ (1 ≤ is (least k l) d + count (least k l) l)) (ltb d m)
-    (λ t. ⊎-elim (λ e. inr (omega (arith, ap (λ (z : ℕ). is z d) e, is-self d))) (λ h. inr (omega arith)) (least-in d l))
-    (λ t. ⊎-elim inl (λ h. inr (omega arith)) (least-in m l))
-
-turnTo-first : (m : ℕ) (l r : List ℕ) → 1 ≤ count m r → first (turnTo m l r) ≡ m
-unfolding turnTo first count
-turnTo-first m l [] h = absurd (not-suc-le-zero h)
-turnTo-first m l (d ∷ r) h =
-    cond-cases (λ (k : List ℕ). first k ≡ m) (eqb d m) (λ t. eqb→eq d m t)
-    (λ t. turnTo-first m (l ++ (d ∷ [])) r (⊎-elim (λ e. absurd (neqb→ne d m t (sym e))) (λ n. omega arith) (is-cases m d)))
 
 -- Begins with its smallest dart: that is its first, and no dart of it is smaller.
 abbrev pub Headed : List ℕ → Type 0
@@ -233,15 +205,6 @@ below-next d (l ∷ ls) h = go (below-next d ls (h .1)) (decLt (first l) d) (dec
         let none : keep (startsBelow d) ls ≡ [] = none-below d ls (all-weaken (λ m. first l ≤ first m) (λ m. d ≤ first m) (λ m k. omega arith) ls (h .0)) in
         rw (T-is (ltb (first l) (suc d)) (lt→ltb (first l) (suc d) (omega arith)), T-isnt (ltb (first l) d) (λ t. a (ltb→lt (first l) d t)), eqb-yes (first l) d e, none)
         (ap (λ (m : List (List ℕ)). l ∷ m) (r ∙ ap (λ (m : List (List ℕ)). m ++ keep (startsAt d) ls) none))
-
--- d stands in l
-pub has-count : (l : List ℕ) (d : ℕ) → T (has l d) → 1 ≤ count d l
-unfolding has
-has-count l d h = let r = any-T (eqb d) l h in subst (λ (z : ℕ). 1 ≤ count z l) (sym (eqb→eq d (r .0) (r .2))) (r .1)
-
-pub count-has : (l : List ℕ) (d : ℕ) → 1 ≤ count d l → T (has l d)
-unfolding has
-count-has l d h = T-any (eqb d) l d h (eqb-refl d)
 
 module _ (t : List ℕ) where
   -- a land that comes out of its first dart's walk, which is its smallest

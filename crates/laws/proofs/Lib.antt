@@ -2,6 +2,7 @@ pub mod Tests
 pub mod Counts
 pub mod Lists
 pub mod Sets
+pub mod Seeking
 pub mod Runs
 pub mod Links
 pub mod Split
@@ -22,7 +23,6 @@ pub mod Afresh
 pub mod InOrder
 pub mod Counting
 pub mod Passing
-pub mod RoundTrip
 pub mod Steps
 pub mod Turns
 pub mod Visits
@@ -32,6 +32,7 @@ pub mod Rings
 pub mod Changes
 pub mod FragmentMeaning
 pub mod Verdicts
+pub mod RoundTrip
 pub mod PathMeaning
 pub mod RefusalMeaning
 pub mod RefusalTable

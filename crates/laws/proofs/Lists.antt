@@ -1,20 +1,20 @@
 -- Laws of the list definitions (rules, "Lists"): what a test over a list says of the elements, and what a search finds.
 --   All P l         P holds of every element of l
 -- any-T, T-any, not-any, all-T, not-all, keep-T, T-keep: a test over a list of numbers against the numbers in it. count-from, from-lt, from-once: i, i + 1, .. are what they say.
--- all-.., keep-all, keep-none: what holds of every element. two: of two numbers in a list, to its first two. seek-first, seek-found, seek-finds: a search gives the lowest number that passes. part-length, take-replicate: the first part of a list that has as many.
+-- all-.., keep-all, keep-none: what holds of every element. two: of two numbers in a list, to its first two. seek-first, seek-found, seek-finds: a search gives the lowest number that passes. has-count, count-has, place-count, place-of: what stands in a list, and where. part-length, take-replicate, drop-head, first-two: parts of a list.
 -- Assumes nothing.
 use mathlib.Core.Path.{subst, sym, ap, _≡_, refl, _∙_}
 use mathlib.Core.Logic.{⊎-elim, _≢_}
 use mathlib.Core.Bool.{Bool, not}
 use mathlib.Core.List.{List, [], _∷_, map, _++_}
 use Prim.Native.Nat.{ℕ, _≤_, _+_, _<_, zero, suc}
-use native.Mathlib.Nat.{not-suc-le-zero, suc-ne-zero}
+use native.Mathlib.Nat.{not-suc-le-zero, suc-ne-zero, add-zero}
 use native.Mathlib.Decide.{decLt}
 use native.Mathlib.Omega.{arith}
-use lib.Dec.{T, not-T, T-not}
-use lib.ListN.{length, getD, take, replicate}
-use lib.Seq.{length-take-le}
-use Rattle.rules.specs.Lists.{from, any, all, keep, seek}
+use lib.Dec.{T, not-T, T-not, eqb, eqb→eq, eqb-refl}
+use lib.ListN.{length, getD, take, replicate, set, drop}
+use lib.Seq.{length-take-le, getD-drop, drop-drop}
+use Rattle.rules.specs.Lists.{from, any, all, keep, seek, has}
 use Rattle.laws.proofs.Tests.{cond-cases, T-is, and-T, T-and, or-T, T-or₁, T-or₂, not-either}
 use Rattle.laws.proofs.Counts.{is, is-self, is-not, is-cases, is-apart, count}
 
@@ -212,6 +212,33 @@ seek-finds f i n k a b t = go (decLt (seek f i n) (i + n))
     go (yes h) = seek-found f i n h
     go (no h) = absurd (T-not (f k) (seek-none f i n (omega arith) k a b) t)
 
+-- ---- what stands in a list, and where
+
+pub has-count : (l : List ℕ) (d : ℕ) → T (has l d) → 1 ≤ count d l
+unfolding has
+has-count l d h = let r = any-T (eqb d) l h in subst (λ (z : ℕ). 1 ≤ count z l) (sym (eqb→eq d (r .0) (r .2))) (r .1)
+
+pub count-has : (l : List ℕ) (d : ℕ) → 1 ≤ count d l → T (has l d)
+unfolding has
+count-has l d h = T-any (eqb d) l d h (eqb-refl d)
+
+pub place-count : (l : List ℕ) (i : ℕ) → i < length l → 1 ≤ count (getD l i 0) l
+unfolding count
+place-count [] i h = absurd (not-suc-le-zero h)
+place-count (x ∷ l) zero h = omega (arith, is-self x)
+place-count (x ∷ l) (suc i) h = omega (arith, place-count l i (omega arith))
+
+pub place-of : (l : List ℕ) (z : ℕ) → 1 ≤ count z l → (i : ℕ) × (i < length l) × (getD l i 0 ≡ z)
+unfolding count
+place-of [] z h = absurd (not-suc-le-zero h)
+place-of (x ∷ l) z h =
+    ⊎-elim (λ e. (0, omega arith, sym e)) (λ m. let r = place-of l z (omega arith) in (suc (r .0), omega (arith, r .1), r .2)) (is-cases z x)
+
+pub length-from : (i n : ℕ) → length (from i n) ≡ n
+unfolding from
+length-from i zero = refl
+length-from i (suc n) = ap suc (length-from (suc i) n)
+
 -- ---- the first part of a list
 
 pub part-length : {A : Type 0} (n m : ℕ) (l : List A) → m ≡ length l → n ≤ m → n ≡ length (take n l)
@@ -221,3 +248,14 @@ pub take-replicate : {A : Type 0} (n m : ℕ) (a : A) → n ≤ m → take n (re
 take-replicate zero m a h = refl
 take-replicate (suc n) zero a h = absurd (not-suc-le-zero h)
 take-replicate {A} (suc n) (suc m) a h = ap (λ (l : List A). a ∷ l) (take-replicate n m a (omega arith))
+
+pub drop-head : (l : List ℕ) (k x : ℕ) (r : List ℕ) → drop k l ≡ x ∷ r → (getD l k 0 ≡ x) × (drop (k + 1) l ≡ r)
+drop-head l k x r e = (
+  ap (λ (i : ℕ). getD l i 0) (sym (add-zero k)) ∙ sym (getD-drop k l 0 0) ∙ ap (λ (m : List ℕ). getD m 0 0) e,
+  sym (drop-drop 1 k l) ∙ ap (drop 1) e,
+)
+
+pub first-two : (l : List ℕ) (a b : ℕ) → 2 ≤ length l → take 2 (set (set l 0 a) 1 b) ≡ a ∷ b ∷ []
+first-two [] a b h = absurd (not-suc-le-zero h)
+first-two (x ∷ []) a b h = absurd (not-suc-le-zero {n = 0} (omega arith))
+first-two (x ∷ y ∷ l) a b h = refl

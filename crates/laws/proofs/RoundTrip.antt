@@ -10,7 +10,7 @@ use mathlib.Core.Logic.{_⊎_, inl, inr, ⊎-elim, _↔_}
 use mathlib.Core.Bool.{true}
 use mathlib.Core.List.{List, [], _∷_, _++_, map, append-assoc, append-nil}
 use Prim.Native.Nat.{ℕ, zero, suc, _+_, _*_, _/_, _%_, _^_, _≤_, _<_}
-use native.Mathlib.Nat.{not-suc-le-zero, pow-suc, suc-mul}
+use native.Mathlib.Nat.{pow-suc, suc-mul}
 use native.Mathlib.Omega.{arith}
 use lib.Dec.{T}
 use lib.ListN.{length, getD, length-append, List·getD-append}
@@ -27,9 +27,10 @@ use Rattle.laws.proofs.Links.{laid-lt}
 use Rattle.laws.proofs.Refusals.{refused-not, given-inj, Paired, Tested, fileTests-passed}
 use Rattle.laws.proofs.Reading.{readPlate-given, accepted, kept-laidOut}
 use Rattle.laws.proofs.InOrder.{inOrder, length-inOrder, landsOf-laidOut}
-use Rattle.laws.proofs.Counting.{flat-laid, paths-most, lands-flat, partial-paths}
+use Rattle.laws.proofs.Counting.{flat-laid, paths-most, lands-flat}
 use Rattle.laws.proofs.Turns.{turn-laid}
 use Rattle.laws.proofs.Passing.{tested-pass, turns-pass, lent-pass}
+use Rattle.laws.proofs.Verdicts.{whole-laidOut}
 
 -- ---- numbers in bytes
 
@@ -258,7 +259,7 @@ module _ (b : List ℕ) (p : Plate) (h : readPlate b ≡ given p) where
       go : (w : Word) → laidOut p withoutCap .word ≡ w → (laidOut p withoutCap .word ≡ FLAT) ⊎ (laidOut p withoutCap .word ≡ STUCK)
       go FLAT e = inl e
       go STUCK e = inr e
-      go PARTIAL e = absurd (not-suc-le-zero {n = 0} (omega (arith, partial-paths b p h withoutCap e, paths-most b p h withoutCap, accepted b p h .channels .1)))
+      go PARTIAL e = absurd (whole-laidOut b p h e)
 
   module _ (lent : ℕ) (enough : fileLength sheetFile (p .channels) ≤ lent) where
     write-as : writeSheet b lent ≡ (stuckTest (laidOut p withoutCap) >> given (fileOf sheetFile (p .ports) (p .channels) (p .ends) (laidOut p withoutCap .state .turns)))

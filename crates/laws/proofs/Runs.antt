@@ -2,19 +2,20 @@
 --   Run t d l e     d, then the darts of l, then e, each the next of the one before
 --   Land t l        l is a run that comes back to its first dart
 -- reverse-.., channel-..: the two darts of a channel are each other's reverses. run-append, run-cut: a run is cut and joined anywhere. run-keep, run-end: turns that a run does not use do not matter.
--- land-turn, listed-keeps, land-listed: a land is one from whichever of its darts it is listed.
+-- land-turn, listed-keeps, land-listed: a land is one from whichever of its darts it is listed. least-.., turnTo-first: the smallest dart of a list, and a list turned to begin with a dart.
 -- Assumes nothing.
 use mathlib.Core.Path.{_≡_, sym, _∙_, ap, subst, refl}
 use mathlib.Core.Logic.{_≢_, _⊎_, ⊎-elim, inl, inr}
 use mathlib.Core.List.{List, [], _∷_, _++_, append-nil, append-assoc}
-use Prim.Native.Nat.{ℕ, _<_, _*_, _/_, _%_, _≤_}
-use native.Mathlib.Nat.{eq-zero-or-pos}
+use mathlib.Core.Bool.{cond}
+use Prim.Native.Nat.{ℕ, _<_, _*_, _/_, _%_, _≤_, _+_}
+use native.Mathlib.Nat.{eq-zero-or-pos, not-suc-le-zero}
 use native.Mathlib.Omega.{arith}
-use lib.Dec.{eqb}
+use lib.Dec.{eqb, eqb→eq, ltb, ltb→lt, nltb→le}
 use lib.ListN.{length, length-append}
 use Rattle.rules.specs.Terms.{reverse, missing, next, least, turnTo, listed}
-use Rattle.rules.specs.Laying.{back, last}
-use Rattle.laws.proofs.Tests.{cond-cases}
+use Rattle.rules.specs.Laying.{back, last, first}
+use Rattle.laws.proofs.Tests.{cond-cases, neqb→ne}
 use Rattle.laws.proofs.Counts.{is, is-self, is-not, is-cases, count, count-head, count-append, Distinct}
 
 -- ---- reversal
@@ -65,6 +66,13 @@ pub length-back : (q : List ℕ) → length (back q) ≡ length q
 unfolding back
 length-back [] = refl
 length-back (d ∷ q) = omega (arith, length-append (back q) (reverse d ∷ []), length-back q)
+
+pub same-channel : (d e : ℕ) → d / 2 ≡ e / 2 → (d ≡ e) ⊎ (d ≡ reverse e)
+same-channel d e h =
+    ⊎-elim
+    (λ p. ⊎-elim (λ q. inl (p ∙ sym q)) (λ q. inr (p ∙ sym (reverse-reverse (2 * (e / 2))) ∙ ap reverse (sym q))) (channel-darts e (e / 2) refl))
+    (λ p. ⊎-elim (λ q. inr (p ∙ ap reverse (sym q))) (λ q. inl (p ∙ sym q)) (channel-darts e (e / 2) refl))
+    (channel-darts d (e / 2) h)
 
 -- ---- runs
 
@@ -145,3 +153,33 @@ run-end t u d (x ∷ l) e f same k u′ h = (
   same d (omega (arith, is-self d)) (λ q. omega (arith, last-in x l, u′ .0, ap (λ (z : ℕ). count z (x ∷ l)) q)) ∙ h .0,
   run-end t u x l e f (λ z i n. same z (omega arith) n) k (u′ .1) (h .1),
 )
+
+-- ---- the smallest dart of a land
+
+pub least-le : (m : ℕ) (l : List ℕ) → least m l ≤ m
+unfolding least
+least-le m [] = omega arith
+least-le m (d ∷ l) = cond-cases (λ (k : ℕ). least k l ≤ m) (ltb d m) (λ t. omega (arith, least-le d l, ltb→lt d m t)) (λ t. least-le m l)
+
+pub least-low : (m : ℕ) (l : List ℕ) (z : ℕ) → 1 ≤ count z l → least m l ≤ z
+unfolding least count
+least-low m [] z h = absurd (not-suc-le-zero h)
+least-low m (d ∷ l) z h =
+    ⊎-elim
+    (λ e. cond-cases (λ (k : ℕ). least k l ≤ z) (ltb d m) (λ t. omega (arith, least-le d l)) (λ t. omega (arith, least-le m l, nltb→le d m t)))
+    (λ n. least-low (cond (ltb d m) d m) l z (omega arith)) (is-cases z d)
+
+pub least-in : (m : ℕ) (l : List ℕ) → (least m l ≡ m) ⊎ (1 ≤ count (least m l) l)
+unfolding least count
+least-in m [] = inl refl
+least-in m (d ∷ l) =
+    cond-cases (λ (k : ℕ). (least k l ≡ m) ⊎ (1 ≤ is (least k l) d + count (least k l) l)) (ltb d m)
+    (λ t. ⊎-elim (λ e. inr (omega (arith, ap (λ (z : ℕ). is z d) e, is-self d))) (λ h. inr (omega arith)) (least-in d l))
+    (λ t. ⊎-elim inl (λ h. inr (omega arith)) (least-in m l))
+
+pub turnTo-first : (m : ℕ) (l r : List ℕ) → 1 ≤ count m r → first (turnTo m l r) ≡ m
+unfolding turnTo first count
+turnTo-first m l [] h = absurd (not-suc-le-zero h)
+turnTo-first m l (d ∷ r) h =
+    cond-cases (λ (k : List ℕ). first k ≡ m) (eqb d m) (λ t. eqb→eq d m t)
+    (λ t. turnTo-first m (l ++ (d ∷ [])) r (⊎-elim (λ e. absurd (neqb→ne d m t (sym e))) (λ n. omega arith) (is-cases m d)))

@@ -5,19 +5,19 @@
 use mathlib.Core.Path.{_≡_, refl, sym, ap, _∙_}
 use mathlib.Core.Bool.{Bool, true, false}
 use mathlib.Core.List.{List, [], _∷_}
-use Prim.Native.Nat.{ℕ, _+_, _*_, _<_, _≤_}
+use Prim.Native.Nat.{ℕ, _<_, _≤_}
 use native.Mathlib.Omega.{arith}
 use lib.Dec.{ltb, ltb→lt}
 use lib.ListN.{length, replicate, length-replicate}
 use Rattle.rules.specs.Lists.{seek, any}
-use Rattle.rules.specs.Files.{Format, limits1, plateFile, sheetFile, portsIn, channelsIn, endsIn, turnsIn, fileLength, fileOf}
+use Rattle.rules.specs.Files.{Format, plateFile, sheetFile, portsIn, channelsIn, endsIn, turnsIn, fileLength, fileOf}
 use Rattle.rules.specs.Refusals.{Answer, given, refused, Test, _>>=_, _>>_, passed, refuse, refuseAt, placeOfChannel, itself, short, otherMark, otherVersion, markTests, outside, otherLength, countTests, strange, loop, metEarlier, pairTests, fileTests, apart, cuts, pieceTests, wildTurn, awayTurn, brokenRing, turnTests, Lent, lentTest, Plate, Sheet, readPlate, readTurns}
 use Rattle.rules.specs.Laying.{Word, FLAT, STUCK, PARTIAL, Outcome, withoutCap, wholePlate, laidOut}
 use Rattle.rules.specs.Sheets.{judged, judgeSheet, stuckTest, writeSheet}
 use Rattle.laws.proofs.Tests.{cond-cases}
 use Rattle.laws.proofs.Sets.{at-lt}
 use Rattle.laws.proofs.Refusals.{countTests-passed, fileTests-passed, length-ends}
-use Rattle.laws.proofs.Reading.{Accepted, accepted, layable, kept-laidOut}
+use Rattle.laws.proofs.Reading.{accepted, layable, kept-laidOut}
 use Rattle.laws.proofs.FragmentMeaning.{fragment-play}
 use Rattle.laws.proofs.Verdicts.{ended-laidOut}
 

@@ -1,8 +1,8 @@
 -- Tests: a Boolean is true where T holds of it.
 -- cond-cases proves a thing of `cond b x y` by the two cases of b, and stands for every case split on a test. The others take a test apart
--- (and-T, or-T, not-and, not-either, not-or, not-not) and put it together (T-and, T-or₁, T-or₂), or turn it into an equation (T-is, T-isnt, eq→eqb, eqb-yes, eqb-no, neqb→ne, ne→neqb).
+-- (and-T, or-T, not-and, not-either, not-or, not-not) and put it together (T-and, T-or₁, T-or₂), or turn it into an equation (T-is, T-isnt, eq→eqb, eqb-yes, eqb-no, neqb→ne, ne→neqb, same-flag, or-false, and-true, or-neither).
 -- Assumes nothing.
-use mathlib.Core.Path.{_≡_, refl, subst}
+use mathlib.Core.Path.{_≡_, refl, subst, sym}
 use mathlib.Core.Logic.{_≢_, _⊎_, inl, inr}
 use mathlib.Core.Bool.{Bool, not, cond, true, false, _&&_, _||_}
 use Prim.Native.Nat.{ℕ}
@@ -37,6 +37,11 @@ neqb→ne x y h e = T-not (eqb x y) h (eq→eqb x y e)
 
 pub ne→neqb : (x y : ℕ) → x ≢ y → T (not (eqb x y))
 ne→neqb x y h = not-T (eqb x y) (λ t. h (eqb→eq x y t))
+
+-- two flags that imply each other
+pub same-flag : (a b : Bool) → (T a → T b) → (T b → T a) → a ≡ b
+same-flag true b f g = sym (T-is b (f tt))
+same-flag false b f g = sym (T-isnt b g)
 
 -- ---- both, either, neither
 
@@ -75,3 +80,15 @@ not-or false b t = (tt, t)
 pub not-not : (a : Bool) → T (not (not a)) → T a
 not-not true t = tt
 not-not false t = absurd t
+
+pub or-false : (a : Bool) → (a || false) ≡ a
+or-false true = refl
+or-false false = refl
+
+pub and-true : (a : Bool) → a && true ≡ a
+and-true true = refl
+and-true false = refl
+
+pub or-neither : (a b : Bool) → (a || b) ≡ false → (a ≡ false) × (b ≡ false)
+or-neither true b e = (e, cc)
+or-neither false b e = (refl, e)

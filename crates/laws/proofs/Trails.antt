@@ -25,6 +25,11 @@ pub enters-reverse : (ps : List ℕ) (d : ℕ) → enters ps (reverse d) ≡ lea
 unfolding enters leaves
 enters-reverse ps d = ap (λ (i : ℕ). getD ps i 0) (reverse-reverse d)
 
+-- the second end of a channel
+pub second-end : (ps : List ℕ) (k : ℕ) → getD ps (2 * k + 1) 0 ≡ enters ps (2 * k)
+unfolding enters reverse
+second-end ps k = ap (λ (d : ℕ). getD ps d 0) (omega arith)
+
 -- the two darts of a channel, as they leave different ports
 pub channel-opposite : (ps : List ℕ) (k d e : ℕ) → d / 2 ≡ k → e / 2 ≡ k → leaves ps d ≢ leaves ps e → enters ps d ≡ leaves ps e
 channel-opposite ps k d e hd he ne =

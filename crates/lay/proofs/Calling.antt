@@ -13,6 +13,7 @@ use lib.ListN.{length}
 use Rattle.rules.specs.Lists.{any}
 use Rattle.rules.specs.Refusals.{Answer, given, refused, passed, _>>=_, _>>_, refuse, lentTest, Plate as RulePlate, readPlate}
 use Rattle.rules.specs.Laying.{Laid as Laying, landsOfFlat, layPlate, told, turnsLeft, landsLeft, lengthsLeft}
+use Rattle.laws.proofs.Tests.{or-neither}
 use Rattle.plate.specs.declared.Plate.{Plate}
 use Rattle.plate.specs.declared.Refusal.{Refusal}
 use Rattle.plate.specs.declared.Reading.{Reading}
@@ -70,15 +71,11 @@ unread-all b n t l s r e x d y g =
 
 -- ---- slices that are long enough
 
-or-no : (a b : Bool) → (a || b) ≡ false → (a ≡ false) × (b ≡ false)
-or-no false b e = (refl, e)
-or-no true b e = let z : _≡_ {A = ℕ} 0 1 = cc in absurd (omega arith)
-
 pub long-enough : (f : Bool) (d m t l s : ℕ) → f ≡ (ltb t d || (ltb l d || (ltb s m || false))) → f ≡ false → (d ≤ t) × (d ≤ l) × (m ≤ s)
 long-enough f d m t l s e h =
-    let a = or-no (ltb t d) (ltb l d || (ltb s m || false)) (sym e ∙ h) in
-    let b = or-no (ltb l d) (ltb s m || false) (a .1) in
-    let c = or-no (ltb s m) false (b .1) in
+    let a = or-neither (ltb t d) (ltb l d || (ltb s m || false)) (sym e ∙ h) in
+    let b = or-neither (ltb l d) (ltb s m || false) (a .1) in
+    let c = or-neither (ltb s m) false (b .1) in
     (ltb-false t d (a .0), ltb-false l d (b .0), ltb-false s m (c .0))
 
 -- ---- a plate that was read

@@ -6,16 +6,10 @@ ghost use lib.ListN.{length};
 ghost use Rattle.rules.specs.Laying.{layPlate, told, turnsLeft, landsLeft, lengthsLeft};
 ghost use Rattle.laid.specs.Answers.{laidAnswer};
 use laid::Laid;
+use numbers::wide32;
 use plate::Plate;
 use plate::Reading;
 use plate::Refusal;
-
-// The number x as an index.
-fn wide(x: u32) -> usize
-    ensures { λ r. ⌜ r ≡ x ⌝ }
-{
-    x as usize
-}
 
 // Some of the three lent slices is shorter than the call needs.
 fn is_short(darts: usize, most: usize, turns: usize, lands: usize, lengths: usize) -> bool
@@ -53,7 +47,7 @@ pub fn lay(file: &[u8], n: u32, turns: &mut [u16], lands: &mut [u16], lengths: &
     laid::lay_pairs(
         &file[Plate::PAIRS_AT..end],
         p.ports,
-        wide(n),
+        wide32(n),
         &mut turns[..darts],
         &mut lands[..darts],
         &mut lengths[..most],

@@ -10,18 +10,12 @@ ghost use Rattle.land.specs.Walks.{landFrom, lands, Below, Darts, Walkable};
 ghost use Rattle.print.specs.Puts.{Put};
 ghost use Rattle.lines.specs.Story.{cycleOf, pathsIn, Entries};
 ghost use Rattle.lines.specs.Lines.{spelled, lineOfWord, plateOf, pathLines, portLines, flatLines, outcomeOf, Ringed, Sheet, Held};
+use numbers::wide;
 use plate::Plate;
 use print::put_byte;
 use print::put_field;
 use print::put_text;
 use rounds::Word;
-
-// The number x as an index.
-fn wide(x: u16) -> usize
-    ensures { λ r. ⌜ (r ≡ x) × (r < 65536) ⌝ }
-{
-    x as usize
-}
 
 // Writes the first line: the mark, the version, the number of ports and the number of channels.
 pub fn head_line(out: &mut [u8], at: usize, v: usize, e: usize) -> usize

@@ -33,6 +33,12 @@ refused-as {A} {B} h = ap over h
     over (given a) = refused 0 0
     over (refused n p) = refused n p
 
+-- what is told of an answer is a refusal: it is the answer's own
+refused-by : {A B : Type 0} (tell : Answer A → Answer B) → ((a : A) → (b : B) × (tell (given a) ≡ given b)) → ((k q : ℕ) → tell (refused k q) ≡ refused k q)
+    → (x : Answer A) (n p : ℕ) → refused n p ≡ tell x → x ≡ refused n p
+refused-by tell g r (given a) n p h = absurd (refused-not n p (g a .0) (h ∙ g a .1))
+refused-by tell g r (refused k q) n p h = sym (refused-as (h ∙ r k q))
+
 -- ---- a sheet that is written
 
 module _ (b old : List ℕ) (r : Written) (e : writtenAnswer r ≡ done (writeSheet b (length old))) where
@@ -46,11 +52,7 @@ module _ (b old : List ℕ) (r : Written) (e : writtenAnswer r ≡ done (writeSh
 
   unwritten : (x : Refusal) → r ≡ Unwritten x → writeSheet b (length old) ≡ refused (x .number) (x .place)
   unfolding writtenAnswer done
-  unwritten x d = go (writeSheet b (length old)) (sym (ap writtenAnswer d) ∙ e)
-    where
-      go : (a : Answer (List ℕ)) → refused (x .number) (x .place) ≡ done a → a ≡ refused (x .number) (x .place)
-      go (given s) g = absurd (refused-not _ _ _ g)
-      go (refused k q) g = sym (refused-as g)
+  unwritten x d = refused-by done (λ a. (tt, refl)) (λ k q. refl) (writeSheet b (length old)) _ _ (sym (ap writtenAnswer d) ∙ e)
 
   pub write-small : (x : Refusal) → r ≡ Unwritten x → (x .number ≤ 16) × (x .place < 65536)
   write-small x d = subst (Small {A = List ℕ}) (unwritten x d) (small-write b (length old))
@@ -72,11 +74,7 @@ module _ (b : List ℕ) (r : Sheet) (e : answerOf r ≡ counted (judgeSheet b)) 
 
   unjudged : (x : Refusal) → r ≡ Refused x → judgeSheet b ≡ refused (x .number) (x .place)
   unfolding answerOf counted
-  unjudged x d = go (judgeSheet b) (sym (ap answerOf d) ∙ e)
-    where
-      go : (a : Answer RuleJudged) → refused (x .number) (x .place) ≡ counted a → a ≡ refused (x .number) (x .place)
-      go (given j) g = absurd (refused-not _ _ _ g)
-      go (refused k q) g = sym (refused-as g)
+  unjudged x d = refused-by counted (λ a. (record { lands = length (a .lands); flat = a .flat }, refl)) (λ k q. refl) (judgeSheet b) _ _ (sym (ap answerOf d) ∙ e)
 
   pub judge-small : (x : Refusal) → r ≡ Refused x → (x .number ≤ 16) × (x .place < 65536)
   judge-small x d = subst (Small {A = RuleJudged}) (unjudged x d) (small-judge b)

@@ -1,7 +1,5 @@
 pub mod Laws
-pub mod Search
 pub mod Stages
-pub mod Ends
 pub mod Copies
-pub mod Cutting
+pub mod Rooms
 pub mod Unique

@@ -4,7 +4,7 @@
 -- kind-..: what the two formats share. other-mark: a mark, byte by byte.
 -- Assumes nothing.
 use mathlib.Core.Path.{_≡_, refl, sym, ap, subst, _∙_}
-use mathlib.Core.Bool.{Bool, true, false, not, _&&_, _||_}
+use mathlib.Core.Bool.{Bool, true, false, not, _&&_}
 use mathlib.Core.List.{List}
 use Prim.Native.Nat.{ℕ, _+_, _*_, _≤_, _<_}
 use native.Mathlib.Omega.{arith}
@@ -24,6 +24,7 @@ use Rattle.plate.specs.declared.Reading.the-variants.{Plate as Read, Ref
 use Rattle.plate.specs.Answers.{formatOf, testOf, readingOf}
 use Rattle.plate.specs.State.{mostDarts}
 use Rattle.laws.proofs.Refusals.{countTests-passed}
+use Rattle.laws.proofs.Tests.{or-neither}
 use Rattle.plate.proofs.Laws.{length-plate, length-sheet, test-passed, stops, goes, piecesIn, plateIn, reading-is}
 
 -- ---- a test over channels
@@ -89,13 +90,9 @@ pub outside-high : (low high n : ℕ) → low ≤ n → ltb high n ≡ outside l
 unfolding outside
 outside-high low high n h = rw (le-ltb n low h)
 
-or-false : (x y : Bool) → (x || y) ≡ false → (x ≡ false) × (y ≡ false)
-or-false true y e = (e, cc)
-or-false false y e = (refl, e)
-
 pub inside : (low high n : ℕ) → outside low high n ≡ false → (low ≤ n) × (n ≤ high)
 unfolding outside
-inside low high n e = let w = or-false (ltb n low) (ltb high n) e in (ltb-false n low (w .0), ltb-false high n (w .1))
+inside low high n e = let w = or-neither (ltb n low) (ltb high n) e in (ltb-false n low (w .0), ltb-false high n (w .1))
 
 -- ---- 7 to 9
 

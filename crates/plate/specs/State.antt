@@ -6,7 +6,6 @@
 --   copied from to       the list `to` with the elements of `from` at its start, as many as fit both
 --   Whole v ends         the ends of a plate that is within the limits, all of v ports
 --   Room ..              room for the neighbours, the marks and the queue of a plate
---   Lent ..              the same, with the neighbours there
 -- Assumes nothing.
 use mathlib.Core.Path.{_≡_}
 use mathlib.Core.Bool.{Bool, true, false}
@@ -16,7 +15,7 @@ use lib.ListN.{length, take, drop, replicate}
 use Rattle.rules.specs.Terms.{missing}
 use Rattle.rules.specs.Files.{limits1}
 use Rattle.reach.specs.Neighbours.{Ports}
-use Rattle.reach.specs.Floods.{Sized, Tables}
+use Rattle.reach.specs.Floods.{Sized}
 
 abbrev pub mostDarts : ℕ
 mostDarts = 2 * limits1 .mostChannels
@@ -56,10 +55,3 @@ pub record Room (ends : List ℕ) (play : List Bool) (first more : List ℕ) (ma
   pub some : 2 ≤ length marks
   pub few : length marks < 65536
   pub darts : length ends < 65536
-
-pub record Lent (ends first more : List ℕ) (play marks : List Bool) (queue : List ℕ) : Type 0 where
-  pub sized : Sized (length marks) ends play
-  pub tables : Tables (length marks) ends first more
-  pub places : length queue ≡ length marks
-  pub some : 2 ≤ length marks
-  pub few : length marks < 65536

@@ -1,15 +1,15 @@
 // The plate: its constants, the reader's answers, the tests of a file, and the reader of plate files.
 ghost use mathlib.Core.Path.{_≡_};
-ghost use mathlib.Core.Bool.{true, false, cond, not, _&&_};
+ghost use mathlib.Core.Bool.{true, not};
 ghost use Prim.Native.Nat.{min, _+_, _*_, _/_, _<_, _≤_};
-ghost use lib.Dec.{eqb};
 ghost use lib.ListN.{length, getD, replicate};
-ghost use Rattle.rules.specs.Lists.{number, seek};
-ghost use Rattle.rules.specs.Terms.{leaves, enters};
+ghost use Rattle.rules.specs.Lists.{number};
 ghost use Rattle.rules.specs.Files.{plateFile, limits1, portsIn, channelsIn, endsIn, fileLength};
-ghost use Rattle.rules.specs.Refusals.{refused, outside, otherMark, markTests, countTests, strange, loop, samePair, metEarlier, pairTests, fileTests, passed, apart, cuts, pieceTests, readPlate, pairsOf};
+ghost use Rattle.rules.specs.Refusals.{refused, outside, otherMark, markTests, countTests, pairTests, fileTests, passed, pieceTests, readPlate, pairsOf};
+ghost use Rattle.pieces.specs.Lent.{Lent};
 ghost use Rattle.plate.specs.Answers.{formatOf, testOf, readingOf, refusalIn};
-ghost use Rattle.plate.specs.State.{mostDarts, noEnds, noTurns, allChannels, noMarks, noPorts, copied, Lent, Room, Whole};
+ghost use Rattle.plate.specs.State.{mostDarts, noEnds, noTurns, allChannels, noMarks, noPorts, copied, Room, Whole};
+use numbers::wide8;
 
 // A plate that was read: its ports and its channels.
 pub struct Plate {
@@ -123,13 +123,6 @@ pub enum Reading {
 
 // ---- numbers in a file
 
-// A byte as a number.
-fn wide(x: u8) -> usize
-    ensures { λ r. ⌜ (r ≡ x) × (r < 256) ⌝ }
-{
-    x as usize
-}
-
 // The byte at i; 0 past the end.
 fn byte_at(file: &[u8], i: usize) -> usize
     ensures { λ r. ⌜ (r ≡ getD (now (file .entry)) i 0) × (r < 256) ⌝ }
@@ -137,7 +130,7 @@ fn byte_at(file: &[u8], i: usize) -> usize
     if file.len() <= i {
         return 0;
     }
-    wide(file[i])
+    wide8(file[i])
 }
 
 // The number in the two bytes from i on, little-endian.
@@ -189,13 +182,13 @@ fn has_mark(kind: Kind, file: &[u8]) -> bool
     ensures { λ r. ⌜ not r ≡ otherMark (formatOf kind) (now (file .entry)) ⌝ }
 {
     let mark = mark_of(kind);
-    if byte_at(file, 0) != wide(mark[0]) {
+    if byte_at(file, 0) != wide8(mark[0]) {
         return false;
     }
-    if byte_at(file, 1) != wide(mark[1]) {
+    if byte_at(file, 1) != wide8(mark[1]) {
         return false;
     }
-    byte_at(file, 2) == wide(mark[2])
+    byte_at(file, 2) == wide8(mark[2])
 }
 
 // Tests 1 to 3.
@@ -257,140 +250,21 @@ fn count_tests(kind: Kind, file: &[u8]) -> Test
 
 // ---- 7 to 9: the pairs, as the ports that the darts leave
 
-// A port as a number.
-fn port(x: u16) -> usize
-    ensures { λ r. ⌜ (r ≡ x) × (r < 65536) ⌝ }
-{
-    x as usize
-}
-
-// The first end of channel k.
-fn first_end(ends: &[u16], k: usize) -> u16
-    requires { ⌜ 2 * k + 1 < length (now ends) ⌝ }
-    ensures { λ r. ⌜ r ≡ leaves (now (ends .entry)) (2 * k) ⌝ }
-{
-    ends[2 * k]
-}
-
-// The second end of channel k.
-fn second_end(ends: &[u16], k: usize) -> u16
-    requires { ⌜ 2 * k + 1 < length (now ends) ⌝ }
-    ensures { λ r. ⌜ r ≡ enters (now (ends .entry)) (2 * k) ⌝ }
-{
-    ends[2 * k + 1]
-}
-
-// Channel k has a port of v or more.
-fn is_strange(ends: &[u16], v: usize, k: usize) -> bool
-    requires { ⌜ 2 * k + 1 < length (now ends) ⌝ }
-    ensures { λ r. ⌜ r ≡ strange v (now (ends .entry)) k ⌝ }
-{
-    if v <= port(first_end(ends, k)) {
-        return true;
-    }
-    v <= port(second_end(ends, k))
-}
-
-// The lowest channel with a port of v or more; the number of channels where there is none.
-fn first_strange(ends: &[u16], v: usize) -> usize
-    ensures { λ r. ⌜ r ≡ seek (strange v (now (ends .entry))) 0 (length (now (ends .entry)) / 2) ⌝ }
-{
-    let e = ends.len() / 2;
-    let mut k = 0;
-    while k < e {
-        if is_strange(ends, v, k) {
-            return k;
-        }
-        k += 1;
-    }
-    k
-}
-
-// The lowest channel with equal ends; the number of channels where there is none.
-fn first_loop(ends: &[u16]) -> usize
-    ensures { λ r. ⌜ r ≡ seek (loop (now (ends .entry))) 0 (length (now (ends .entry)) / 2) ⌝ }
-{
-    let e = ends.len() / 2;
-    let mut k = 0;
-    while k < e {
-        if first_end(ends, k) == second_end(ends, k) {
-            return k;
-        }
-        k += 1;
-    }
-    k
-}
-
-// The pair of x and y is that of a and b, this way round.
-fn is_pair(x: u16, y: u16, a: u16, b: u16) -> bool
-    ensures { λ r. ⌜ r ≡ (eqb x a && eqb y b) ⌝ }
-{
-    if x != a {
-        return false;
-    }
-    y == b
-}
-
-// Channels j and k have the same pair, either way round.
-fn is_same_pair(ends: &[u16], j: usize, k: usize) -> bool
-    requires { ⌜ (2 * j + 1 < length (now ends)) × (2 * k + 1 < length (now ends)) ⌝ }
-    ensures { λ r. ⌜ r ≡ samePair (now (ends .entry)) j k ⌝ }
-{
-    let x = first_end(ends, j);
-    let y = second_end(ends, j);
-    let a = first_end(ends, k);
-    let b = second_end(ends, k);
-    if is_pair(x, y, a, b) {
-        return true;
-    }
-    is_pair(x, y, b, a)
-}
-
-// The pair of channel k was met earlier.
-fn is_met_earlier(ends: &[u16], k: usize) -> bool
-    requires { ⌜ 2 * k + 1 < length (now ends) ⌝ }
-    ensures { λ r. ⌜ r ≡ metEarlier (now (ends .entry)) k ⌝ }
-{
-    let mut j = 0;
-    while j < k {
-        if is_same_pair(ends, j, k) {
-            return true;
-        }
-        j += 1;
-    }
-    false
-}
-
-// The lowest channel with a pair met earlier; the number of channels where there is none.
-fn first_met_earlier(ends: &[u16]) -> usize
-    ensures { λ r. ⌜ r ≡ seek (metEarlier (now (ends .entry))) 0 (length (now (ends .entry)) / 2) ⌝ }
-{
-    let e = ends.len() / 2;
-    let mut k = 0;
-    while k < e {
-        if is_met_earlier(ends, k) {
-            return k;
-        }
-        k += 1;
-    }
-    k
-}
-
 // Tests 7 to 9.
 fn pair_tests(ends: &[u16], v: usize) -> Test
     requires { ⌜ length (now ends) < 65536 ⌝ }
     ensures { λ r. ⌜ testOf r ≡ pairTests v (now (ends .entry)) (length (now (ends .entry)) / 2) ⌝ }
 {
     let e = ends.len() / 2;
-    let strange = first_strange(ends, v);
-    let equal = first_loop(ends);
+    let strange = pairs::first_strange(ends, v);
+    let equal = pairs::first_loop(ends);
     if strange < e {
         return refused(7, strange);
     }
     if equal < e {
         return refused(8, equal);
     }
-    let repeated = first_met_earlier(ends);
+    let repeated = pairs::first_met_earlier(ends);
     if repeated < e {
         return refused(9, repeated);
     }
@@ -461,87 +335,6 @@ pub fn file_tests(kind: Kind, file: &[u8]) -> Test
 
 // ---- 10 and 11: the pieces
 
-// No port is marked.
-fn clear(marks: &mut [bool])
-    ensures { λ _. ⌜ now (marks .exit) ≡ replicate (length (now (marks .entry))) false ⌝ }
-{
-    let mut p = 0;
-    while p < marks.len() {
-        marks[p] = false;
-        p += 1;
-    }
-}
-
-// The lowest port that is not reached from port 0; the number of ports where there is none.
-fn first_apart(
-    ends: &[u16],
-    first: &[u16],
-    more: &[u16],
-    play: &[bool],
-    marks: &mut [bool],
-    queue: &mut [u16],
-) -> usize
-    requires { ⌜ Lent (now ends) (now first) (now more) (now play) (now marks) (now queue) ⌝ }
-    ensures { λ r. ⌜ r ≡ seek (apart (length (now (marks .entry))) (now (ends .entry)) (now (play .entry))) 0 (length (now (marks .entry))) ⌝ }
-{
-    clear(marks);
-    reach::flood(ends, first, more, play, marks, queue, 0);
-    reach::first_unmarked(marks)
-}
-
-// The lowest port other than c.
-fn lowest_other(c: usize) -> usize
-    ensures { λ r. ⌜ r ≡ cond (eqb c 0) 1 0 ⌝ }
-{
-    if c == 0 {
-        return 1;
-    }
-    0
-}
-
-// Without port c the other ports are in two or more pieces.
-fn is_cut(
-    ends: &[u16],
-    first: &[u16],
-    more: &[u16],
-    play: &[bool],
-    marks: &mut [bool],
-    queue: &mut [u16],
-    c: usize,
-) -> bool
-    requires lent { ⌜ Lent (now ends) (now first) (now more) (now play) (now marks) (now queue) ⌝ }
-    requires port { ⌜ c < length (now marks) ⌝ }
-    ensures { λ r. ⌜ r ≡ cuts (length (now (marks .entry))) (now (ends .entry)) (now (play .entry)) c ⌝ }
-{
-    clear(marks);
-    marks[c] = true;
-    let p = lowest_other(c);
-    reach::flood(ends, first, more, play, marks, queue, p);
-    reach::first_unmarked(marks) < marks.len()
-}
-
-// The lowest port without which the others are in two or more pieces; the number of ports where there is none.
-fn first_cut(
-    ends: &[u16],
-    first: &[u16],
-    more: &[u16],
-    play: &[bool],
-    marks: &mut [bool],
-    queue: &mut [u16],
-) -> usize
-    requires { ⌜ Lent (now ends) (now first) (now more) (now play) (now marks) (now queue) ⌝ }
-    ensures { λ r. ⌜ r ≡ seek (cuts (length (now (marks .entry))) (now (ends .entry)) (now (play .entry))) 0 (length (now (marks .entry))) ⌝ }
-{
-    let mut c = 0;
-    while c < marks.len() {
-        if is_cut(ends, first, more, play, marks, queue, c) {
-            return c;
-        }
-        c += 1;
-    }
-    c
-}
-
 // Tests 10 and 11, over the channels in play, with the neighbours in `first` and `more`. The last two are room to work in.
 fn flood_tests(
     ends: &[u16],
@@ -555,11 +348,11 @@ fn flood_tests(
     ensures { λ r. ⌜ testOf r ≡ pieceTests (length (now (marks .entry))) (now (ends .entry)) (now (play .entry)) ⌝ }
 {
     let v = marks.len();
-    let apart = first_apart(ends, first, more, play, marks, queue);
+    let apart = pieces::first_apart(ends, first, more, play, marks, queue);
     if apart < v {
         return refused(10, apart);
     }
-    let cut = first_cut(ends, first, more, play, marks, queue);
+    let cut = pieces::first_cut(ends, first, more, play, marks, queue);
     if cut < v {
         return refused(11, cut);
     }

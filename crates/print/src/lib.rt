@@ -7,13 +7,8 @@ ghost use Rattle.rules.specs.Terms.{leaves, enters, ring};
 ghost use Rattle.rules.specs.Listing.{decimal, fields};
 ghost use Rattle.land.specs.Walks.{landFrom, Below, Darts};
 ghost use Rattle.print.specs.Puts.{Put};
-
-// The number x as an index.
-fn wide(x: u16) -> usize
-    ensures { λ r. ⌜ (r ≡ x) × (r < 65536) ⌝ }
-{
-    x as usize
-}
+use numbers::reverse;
+use numbers::wide;
 
 // Writes one byte.
 pub fn put_byte(out: &mut [u8], at: usize, x: u8) -> usize
@@ -91,7 +86,7 @@ pub fn put_ports_entered(out: &mut [u8], at: usize, ends: &[u16], darts: &[u16])
     let mut r = at;
     let mut i = 0;
     while i < darts.len() {
-        let d = land::reverse(wide(darts[i]));
+        let d = reverse(wide(darts[i]));
         r = put_field(out, r, wide(ends[d]));
         i += 1;
     }

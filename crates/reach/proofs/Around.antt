@@ -1,5 +1,5 @@
 -- What a caller reads off a flood.
--- at-joined: a port has a mark afterwards where it had one or is around p. around-as: only which ports have a mark counts, so that the ports around p are those reached through the ports without one.
+-- length-joined, at-joined: marks joined are as many; a port has a mark afterwards where it had one or is around p. around-as: only which ports have a mark counts, so that the ports around p are those reached through the ports without one.
 -- around-none, around-only: with no mark, and with the mark of port c alone, they are those of refusals 10 and 11. around-start, around-fresh: p is around p, and no port around p had a mark.
 -- Assumes nothing.
 use mathlib.Core.Path.{_≡_, refl, sym, ap, _∙_, fun-ext}
@@ -18,7 +18,11 @@ use Rattle.laws.proofs.Counts.{is-cases, is-apart}
 use Rattle.laws.proofs.Sets.{at-none, only-self, length-only}
 use Rattle.laws.proofs.Reaches.{way-start, reached-iff, whole-of, play-dart}
 use Rattle.reach.specs.Floods.{joined, around, Sized}
-use Rattle.reach.proofs.Seeking.{getD-map-from}
+use Rattle.laws.proofs.Seeking.{getD-map-from, length-map-from}
+
+pub length-joined : (s r : List Bool) → length (joined s r) ≡ length s
+unfolding joined
+length-joined s r = length-map-from (λ p. at s p || at r p) 0 (length s)
 
 pub at-joined : (s r : List Bool) (z : ℕ) → z < length s → at (joined s r) z ≡ (at s z || at r z)
 unfolding joined at

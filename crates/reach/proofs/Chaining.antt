@@ -17,7 +17,7 @@ use Rattle.rules.specs.Terms.{leaves}
 use Rattle.laws.proofs.Tests.{eqb-yes, eqb-no}
 use Rattle.laws.proofs.Counts.{is-cases, is-apart}
 use Rattle.reach.specs.Neighbours.{firstDart, moreDart, firstDarts, moreDarts}
-use Rattle.reach.proofs.Seeking.{seek-here, seek-on, seek-over, length-map-from, getD-map-from}
+use Rattle.laws.proofs.Seeking.{seek-here, seek-on, seek-over, length-map-from, getD-map-from}
 
 -- the lowest dart from d on that leaves port p
 abbrev pub since : List ℕ → ℕ → ℕ → ℕ

@@ -16,7 +16,7 @@ use Rattle.rules.specs.Terms.{leaves, dartsAt}
 use Rattle.laws.proofs.Tests.{eqb-yes}
 use Rattle.laws.proofs.Lists.{seek-ge, seek-found}
 use Rattle.reach.specs.Neighbours.{firstDart, moreDart, firstDarts, moreDarts}
-use Rattle.reach.proofs.Seeking.{length-map-from, getD-map-from}
+use Rattle.laws.proofs.Seeking.{length-map-from, getD-map-from}
 
 -- ---- what the tables have
 

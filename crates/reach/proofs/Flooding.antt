@@ -8,7 +8,7 @@ use mathlib.Core.Path.{_≡_, refl, sym, ap, _∙_, subst}
 use mathlib.Core.Logic.{_≢_, ⊎-elim}
 use mathlib.Core.Bool.{Bool, true, false, not, _||_}
 use mathlib.Core.List.{List, [], _∷_}
-use Prim.Native.Nat.{ℕ, zero, suc, _+_, _≤_, _<_}
+use Prim.Native.Nat.{ℕ, _+_, _≤_, _<_}
 use native.Mathlib.Nat.{not-suc-le-zero, zero-add}
 use native.Mathlib.Decide.{decLt}
 use native.Mathlib.Omega.{arith}
@@ -20,36 +20,24 @@ use Rattle.rules.specs.Terms.{leaves, reverse, enters, dartsAt}
 use Rattle.rules.specs.Ways.{reached, inPlay}
 use Rattle.laws.proofs.Tests.{eqb-yes}
 use Rattle.laws.proofs.Counts.{flag, flag-T, flag-F, T-flag, flag-le, flag-inj, is-self, is-cases, is-apart, count, count-append}
-use Rattle.laws.proofs.Lists.{keep-T, T-keep, count-from}
+use Rattle.laws.proofs.Lists.{keep-T, T-keep, count-from, place-count, place-of}
 use Rattle.laws.proofs.Sets.{at-lt}
 use Rattle.laws.proofs.Trails.{leaves-reverse, enters-reverse}
 use Rattle.laws.proofs.Reaches.{Way, Linked, reached-iff, whole-of, play-dart, play-reverse}
 use Rattle.reach.specs.Floods.{joined, around, Sized, Flooded}
 use Rattle.reach.specs.Meets.{Met, metIn, meetAll, Room, Held}
-use Rattle.reach.proofs.Seeking.{length-map-from, getD-map-from}
+use Rattle.laws.proofs.Seeking.{length-map-from, getD-map-from}
 use Rattle.reach.proofs.Meeting.{flag-set, Gains, gains-keeps, gains-count, meetAll-gains, meetAll-from, meetAll-marks, held-trans, room-on}
 
 -- ---- places of a list
 
-count-at : (l : List ℕ) (i : ℕ) → i < length l → 1 ≤ count (getD l i 0) l
-unfolding count
-count-at [] i h = absurd (not-suc-le-zero h)
-count-at (x ∷ l) zero h = omega (arith, is-self x)
-count-at (x ∷ l) (suc i) h = omega (arith, count-at l i (omega arith))
-
-place-of : (l : List ℕ) (z : ℕ) → 1 ≤ count z l → (i : ℕ) × (i < length l) × (getD l i 0 ≡ z)
-unfolding count
-place-of [] z h = absurd (not-suc-le-zero h)
-place-of (x ∷ l) z h =
-    ⊎-elim (λ e. (0, omega arith, sym e)) (λ m. let r = place-of l z (omega arith) in (suc (r .0), omega (arith, r .1), r .2)) (is-cases z x)
-
 -- ---- the darts of a port
 
-darts-leave : (ends : List ℕ) (p d : ℕ) → 1 ≤ count d (dartsAt ends p) → leaves ends d ≡ p
+pub darts-leave : (ends : List ℕ) (p d : ℕ) → 1 ≤ count d (dartsAt ends p) → leaves ends d ≡ p
 unfolding dartsAt
 darts-leave ends p d h = eqb→eq (leaves ends d) p (keep-T (λ e. eqb (leaves ends e) p) (from 0 (length ends)) d h)
 
-leaving-darts : (ends : List ℕ) (p d : ℕ) → d < length ends → leaves ends d ≡ p → 1 ≤ count d (dartsAt ends p)
+pub leaving-darts : (ends : List ℕ) (p d : ℕ) → d < length ends → leaves ends d ≡ p → 1 ≤ count d (dartsAt ends p)
 unfolding dartsAt
 leaving-darts ends p d h e =
     T-keep (λ k. eqb (leaves ends k) p) (from 0 (length ends)) d (count-from d 0 (length ends) (omega arith) (omega arith)) (rw (eqb-yes (leaves ends d) p e) tt)
@@ -114,7 +102,7 @@ module _ (ends : List ℕ) (play M : List Bool) (p : ℕ) (sized : Sized (length
     -- a port that a dart enters from here is linked through here
     linked-on : (z d : ℕ) → T (not (at M z)) → leaves ends d ≡ here → T (inPlay play d) → enters ends d ≡ z → Linked-in ends play M z p
     linked-on z d n e i k =
-        let w = f .linked here (count-at (s .queue) h b) in (
+        let w = f .linked here (place-count (s .queue) h b) in (
           reverse d ∷ w .0,
           (play-reverse play d i, leaves-reverse ends d ∙ k, n, subst (λ (x : ℕ). Way ends (inPlay play) (λ q. not (at M q)) x (w .0) p) (sym (enters-reverse ends d ∙ e)) (w .1)),
         )
@@ -207,7 +195,7 @@ pub record Flow (ends : List ℕ) (play M : List Bool) (p : ℕ) (q₀ : List �
 -- the ports of the queue are ports
 pub room-port : (marks : List Bool) (queue : List ℕ) (n i : ℕ) → Room marks queue n → i < n → getD queue i 0 < length marks
 room-port marks queue n i r h =
-    let k : 1 ≤ count (getD (take n queue) i 0) (take n queue) = count-at (take n queue) i (omega (arith, length-take-le n queue (r .most))) in
+    let k : 1 ≤ count (getD (take n queue) i 0) (take n queue) = place-count (take n queue) i (omega (arith, length-take-le n queue (r .most))) in
     subst (λ (z : ℕ). z < length marks) (getD-take n queue i 0 h) (at-lt marks (getD (take n queue) i 0) (T-flag (at marks (getD (take n queue) i 0)) (omega (arith, r .fair (getD (take n queue) i 0)))))
 
 -- the marks of the beginning, read off those where the loop begins

@@ -1,5 +1,3 @@
-pub mod Seeking
-pub mod Filling
 pub mod Chaining
 pub mod Chains
 pub mod Meeting

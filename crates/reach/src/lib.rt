@@ -1,47 +1,17 @@
 // The neighbours of a port, and a flood from a port to all that it is linked to.
 ghost use mathlib.Core.Path.{_≡_};
 ghost use mathlib.Core.Bool.{false, not};
-ghost use Prim.Native.Nat.{_+_, _^_, _<_, _≤_};
-ghost use lib.ListN.{length, replicate};
+ghost use Prim.Native.Nat.{_+_, _<_, _≤_};
+ghost use lib.ListN.{length};
 ghost use Rattle.rules.specs.Lists.{at, seek};
-ghost use Rattle.rules.specs.Terms.{reverse, dartsAt};
+ghost use Rattle.rules.specs.Terms.{dartsAt};
 ghost use Rattle.reach.specs.Neighbours.{Ports, firstDarts, moreDarts};
 ghost use Rattle.reach.specs.Floods.{Sized, Tables, Flooded};
 ghost use Rattle.reach.specs.Meets.{metIn, meet, meetAll, Room, Held};
-
-// The reverse of dart d.
-pub fn reverse(d: usize) -> usize
-    requires { ⌜ d + 1 < 2 ^ 64 ⌝ }
-    ensures { λ r. ⌜ r ≡ reverse d ⌝ }
-{
-    d + 1 - 2 * (d % 2)
-}
-
-// x itself.
-fn wide(x: u16) -> usize
-    ensures { λ r. ⌜ (r ≡ x) × (r < 65536) ⌝ }
-{
-    x as usize
-}
-
-// x itself, which is below 65,536.
-fn narrow(x: usize) -> u16
-    requires { ⌜ x < 65536 ⌝ }
-    ensures { λ r. ⌜ r ≡ x ⌝ }
-{
-    x as u16
-}
-
-// Puts x at every place of s.
-fn fill(s: &mut [u16], x: u16)
-    ensures { λ _. ⌜ now (s .exit) ≡ replicate (length (now (s .entry))) x ⌝ }
-{
-    let mut i = 0;
-    while i < s.len() {
-        s[i] = x;
-        i += 1;
-    }
-}
+use numbers::fill;
+use numbers::narrow;
+use numbers::reverse;
+use numbers::wide;
 
 // The neighbours of every port: `first` gets the lowest dart that leaves each port, and `more` for each dart the next higher that leaves the same port; the number of darts where there is none.
 pub fn neighbours(ends: &[u16], first: &mut [u16], more: &mut [u16])
@@ -51,7 +21,8 @@ pub fn neighbours(ends: &[u16], first: &mut [u16], more: &mut [u16])
     ensures first { λ _. ⌜ now (first .exit) ≡ firstDarts (length (now (first .entry))) (now (ends .entry)) ⌝ }
     ensures more { λ _. ⌜ now (more .exit) ≡ moreDarts (now (ends .entry)) ⌝ }
 {
-    fill(first, narrow(ends.len()));
+    let v = first.len();
+    fill(first, 0, v, narrow(ends.len()));
     let mut d = ends.len();
     while 0 < d {
         d -= 1;

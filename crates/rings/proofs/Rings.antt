@@ -1,23 +1,22 @@
 -- One ring (rules, "Refusals", `oneRing`): the darts of a port form one exactly where the turns from the first of them come back to it first after as many turns as they are.
 --   turnOf t d          the turn of dart d
 --   g, m                of a list of darts that begins with a: the turns as a function, the length
--- onward-is, ring-is: turns as steps. darts-..: what the darts of a port are. filled-up: a list that holds no number more often than another, and is as long, holds each as often. length-mono: and in any case it is no longer. has-in, in-has: the test whether a number stands in a list. back-ring, ring-back: the two directions.
+-- onward-is, ring-is: turns as steps. darts-..: what the darts of a port are. filled-up: a list that holds no number more often than another, and is as long, holds each as often. back-ring, ring-back: the two directions.
 -- Assumes nothing.
 use mathlib.Core.Path.{_≡_, refl, sym, ap, _∙_, subst}
-use mathlib.Core.Logic.{_≢_, _⊎_, ⊎-elim}
-use mathlib.Core.Bool.{Bool}
-use mathlib.Core.List.{List, [], _∷_}
+use mathlib.Core.Logic.{_≢_, ⊎-elim}
+use mathlib.Core.List.{List, _∷_}
 use Prim.Native.Nat.{ℕ, zero, suc, _≤_, _<_}
 use native.Mathlib.Nat.{not-suc-le-zero, eq-zero-or-pos}
 use native.Mathlib.Omega.{arith}
-use lib.Dec.{T, eqb, eqb→eq, eqb-refl}
+use lib.Dec.{T, eqb, eqb→eq}
 use lib.ListN.{length, getD}
 use Rattle.rules.specs.Lists.{from, all, has}
 use Rattle.rules.specs.Terms.{leaves, dartsAt, onward, ring}
 use Rattle.rules.specs.Refusals.{oneRing}
 use Rattle.laws.proofs.Tests.{and-T, T-and, eq→eqb}
-use Rattle.laws.proofs.Counts.{is, is-self, is-cases, count, sum, length-sum}
-use Rattle.laws.proofs.Lists.{any-T, T-any, all-T, keep-le, keep-T, T-keep, count-from, from-lt, from-once}
+use Rattle.laws.proofs.Counts.{is, is-self, is-cases, count, sum, length-sum, sum-less}
+use Rattle.laws.proofs.Lists.{all-T, keep-le, keep-T, T-keep, count-from, from-lt, from-once, count-has, has-count, T-all}
 use Rattle.rings.specs.Turns.{AtPorts}
 use Rattle.rings.proofs.Orbits.{steps, orbit, Back, steps-keep, length-orbit, orbit-from, orbit-has, back-once}
 
@@ -63,41 +62,17 @@ steps-stay ends t p g i a h =
 
 -- ---- lists with the same numbers
 
-sum-mono : (n : ℕ) (l m : List ℕ) → ((z : ℕ) → count z l ≤ count z m) → sum n l ≤ sum n m
-unfolding sum
-sum-mono zero l m h = omega arith
-sum-mono (suc n) l m h = omega (arith, sum-mono n l m h, h n)
-
 squeeze : (n : ℕ) (l m : List ℕ) → ((z : ℕ) → count z l ≤ count z m) → sum n m ≤ sum n l → (z : ℕ) → z < n → count z m ≤ count z l
 unfolding sum
 squeeze zero l m h e z b = absurd (not-suc-le-zero b)
 squeeze (suc n) l m h e z b =
-    ⊎-elim (λ q. rw q (omega (arith, sum-mono n l m h)))
+    ⊎-elim (λ q. rw q (omega (arith, sum-less n l m h)))
     (λ k. let ne : z ≢ n = (λ q. omega (arith, is-self z, ap (is z) q)) in squeeze n l m h (omega (arith, h n)) z (omega arith)) (is-cases z n)
 
 pub filled-up : (n : ℕ) (l m : List ℕ) → ((z : ℕ) → 1 ≤ count z m → z < n) → ((z : ℕ) → count z l ≤ count z m) → length m ≤ length l → (z : ℕ) → count z m ≤ count z l
 filled-up n l m b h e z =
     ⊎-elim (λ k. omega arith)
     (λ k. squeeze n l m h (omega (arith, length-sum n m b, length-sum n l (λ y i. b y (omega (arith, h y))))) z (b z k)) (eq-zero-or-pos (count z m))
-
--- a list that holds no number more often than another is no longer
-pub length-mono : (n : ℕ) (l m : List ℕ) → ((z : ℕ) → 1 ≤ count z m → z < n) → ((z : ℕ) → count z l ≤ count z m) → length l ≤ length m
-length-mono n l m b h = omega (arith, length-sum n m b, length-sum n l (λ z k. b z (omega (arith, h z))), sum-mono n l m h)
-
--- ---- a test over a list
-
-T-all : (f : ℕ → Bool) (l : List ℕ) → ((d : ℕ) → 1 ≤ count d l → T (f d)) → T (all f l)
-unfolding all count
-T-all f [] h = tt
-T-all f (x ∷ l) h = T-and (f x) (all f l) (h x (omega (arith, is-self x))) (T-all f l (λ d k. h d (omega arith)))
-
-pub has-in : (l : List ℕ) (x : ℕ) → T (has l x) → 1 ≤ count x l
-unfolding has
-has-in l x t = let r = any-T (eqb x) l t in subst (λ (d : ℕ). 1 ≤ count d l) (sym (eqb→eq x (r .0) (r .2))) (r .1)
-
-pub in-has : (l : List ℕ) (x : ℕ) → 1 ≤ count x l → T (has l x)
-unfolding has
-in-has l x h = T-any (eqb x) l x h (eqb-refl x)
 
 -- ---- one ring
 
@@ -119,7 +94,7 @@ module _ (n : ℕ) (t : List ℕ) (a : ℕ) (l : List ℕ) (inside : (z : ℕ) �
   back-ring b =
       T-and (all (has (ring t m a)) (a ∷ l)) (eqb (onward t m a) a)
       (T-all (has (ring t m a)) (a ∷ l) (λ d h.
-      in-has (ring t m a) d (rw (ring-is t m a) (omega (arith, filled-up n (orbit g m a) (a ∷ l) inside (within b) (omega (arith, length-orbit g m a)) d)))))
+      count-has (ring t m a) d (rw (ring-is t m a) (omega (arith, filled-up n (orbit g m a) (a ∷ l) inside (within b) (omega (arith, length-orbit g m a)) d)))))
       (eq→eqb (onward t m a) a (onward-is t m a ∙ b .here))
 
   -- where each dart of the list is among the turns, none is twice
@@ -127,7 +102,7 @@ module _ (n : ℕ) (t : List ℕ) (a : ℕ) (l : List ℕ) (inside : (z : ℕ) �
   covers w z =
       ⊎-elim (λ k. omega arith)
       (λ k.
-      let s : 1 ≤ count z (orbit g m a) = subst (λ (r : List ℕ). 1 ≤ count z r) (ring-is t m a) (has-in (ring t m a) z (all-T (has (ring t m a)) (a ∷ l) z w k)) in
+      let s : 1 ≤ count z (orbit g m a) = subst (λ (r : List ℕ). 1 ≤ count z r) (ring-is t m a) (has-count (ring t m a) z (all-T (has (ring t m a)) (a ∷ l) z w k)) in
       omega (arith, once z)) (eq-zero-or-pos (count z (a ∷ l)))
 
   full : T (all (has (ring t m a)) (a ∷ l)) → count a (orbit g m a) ≤ 1

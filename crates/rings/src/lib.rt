@@ -10,16 +10,10 @@ ghost use Rattle.reach.specs.Floods.{Tables};
 ghost use Rattle.plate.specs.Answers.{testOf};
 ghost use Rattle.plate.specs.State.{mostDarts};
 ghost use Rattle.rings.specs.Turns.{InRange, AtPorts};
+use numbers::wide;
 use plate::Plate;
 use plate::Refusal;
 use plate::Test;
-
-// x itself.
-fn wide(x: u16) -> usize
-    ensures { λ r. ⌜ (r ≡ x) × (r < 65536) ⌝ }
-{
-    x as usize
-}
 
 // The refusal with this number at this place.
 fn refused(number: u32, place: usize) -> Test

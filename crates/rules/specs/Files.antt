@@ -6,7 +6,7 @@
 --   endsIn f b, turnsIn f b         the ports of the pairs; the turns, dart 0 first
 --   fileOf f v e ends turns         a whole file
 -- Assumes nothing.
-use mathlib.Core.List.{List, [], _++_, map}
+use mathlib.Core.List.{List, _++_, map}
 use Prim.Native.Nat.{ℕ, _+_, _*_}
 use Rattle.rules.specs.Lists.{concat, text, bytes, number, numbers}
 

@@ -19,7 +19,7 @@ use lib.ListN.{length, getD, set, drop, replicate}
 use Rattle.rules.specs.Lists.{from, any, all, keep, seek, at, concat}
 use Rattle.rules.specs.Terms.{missing, reverse, leaves, enters, laid, visits, listed}
 use Rattle.rules.specs.Ways.{only, iter, larger, path, inPlay}
-use Rattle.rules.specs.Refusals.{Answer, given, refused, _>>=_, _>>_, Plate, Lent, lentTest, readPlate}
+use Rattle.rules.specs.Refusals.{Answer, given, refused, Plate, lentTest, readPlate, _>>=_, _>>_}
 
 -- ---- the state
 

@@ -4,7 +4,7 @@
 --   line w ns        the word w, fields, and a newline
 --   listing b        the listing of a file
 -- Assumes nothing.
-use mathlib.Core.Bool.{Bool, true, false, cond}
+use mathlib.Core.Bool.{cond}
 use mathlib.Core.List.{List, [], _∷_, _++_, map}
 use Prim.Native.Nat.{ℕ, zero, suc, _+_, _/_, _%_}
 use Prim.Native.String.{String}
@@ -14,7 +14,7 @@ use Rattle.rules.specs.Lists.{from, concat, text}
 use Rattle.rules.specs.Terms.{leaves, enters, dartsAt, ring}
 use Rattle.rules.specs.Files.{plateFile}
 use Rattle.rules.specs.Refusals.{Answer, given, refused, Plate, readPlate}
-use Rattle.rules.specs.Laying.{Path, State, Outcome, Word, FLAT, STUCK, PARTIAL, withoutCap, wholePlate, laidOut, firstCycle}
+use Rattle.rules.specs.Laying.{Path, Outcome, FLAT, STUCK, PARTIAL, withoutCap, wholePlate, laidOut, firstCycle}
 
 -- ---- lines
 

@@ -9,14 +9,14 @@
 --   readPlate b, pairsOf b   a plate file; its pairs, as a part of it
 --   readTurns b              a turn sheet
 -- Assumes nothing.
-use mathlib.Core.Bool.{Bool, true, false, cond, not, _&&_, _||_}
+use mathlib.Core.Bool.{Bool, true, cond, not, _&&_, _||_}
 use mathlib.Core.List.{List, [], _∷_}
 use Prim.Native.Nat.{ℕ, _-_, _*_}
 use lib.Dec.{eqb, ltb, leb}
 use lib.ListN.{length, getD, take, drop, replicate}
 use Rattle.rules.specs.Lists.{from, any, all, has, seek, at, number}
 use Rattle.rules.specs.Terms.{leaves, enters, dartsAt, onward, ring}
-use Rattle.rules.specs.Files.{Format, Limits, plateFile, sheetFile, portsIn, channelsIn, pairsAt, endsIn, turnsAt, turnsIn, fileLength}
+use Rattle.rules.specs.Files.{Format, plateFile, sheetFile, portsIn, channelsIn, pairsAt, endsIn, turnsAt, turnsIn, fileLength}
 use Rattle.rules.specs.Ways.{reached}
 
 pub data Answer (A : Type 0) : Type 0 where

@@ -4,7 +4,7 @@
 --   judgeSheet b                 the same without buffers
 --   writeSheet b lent            the bytes of the sheet of a plate file, so many bytes being lent;  sheetLeft: the buffer afterwards
 -- Assumes nothing.
-use mathlib.Core.Bool.{Bool, true, false, cond}
+use mathlib.Core.Bool.{Bool}
 use mathlib.Core.List.{List, [], _∷_, _++_, map}
 use Prim.Native.Nat.{ℕ, _+_, _*_}
 use lib.Dec.{eqb}
@@ -12,8 +12,8 @@ use lib.ListN.{length, drop}
 use Rattle.rules.specs.Lists.{concat}
 use Rattle.rules.specs.Terms.{missing, landsOf}
 use Rattle.rules.specs.Files.{sheetFile, fileLength, fileOf}
-use Rattle.rules.specs.Refusals.{Answer, given, refused, _>>=_, _>>_, Test, passed, Plate, Sheet, Lent, lentTest, readPlate, readTurns}
-use Rattle.rules.specs.Laying.{State, Outcome, Word, FLAT, STUCK, PARTIAL, withoutCap, laidOut, filled}
+use Rattle.rules.specs.Refusals.{Answer, given, refused, Test, passed, Sheet, lentTest, readPlate, readTurns, _>>=_, _>>_}
+use Rattle.rules.specs.Laying.{Outcome, FLAT, STUCK, PARTIAL, withoutCap, laidOut, filled}
 
 -- ---- reading
 

@@ -17,8 +17,8 @@ use Rattle.laws.proofs.Runs.{reverse-below}
 use Rattle.laws.proofs.Trails.{leaves-reverse}
 use Rattle.laws.proofs.Refusals.{Paired, fileTests-passed, then-given, given-inj, length-ends}
 use Rattle.laws.proofs.RefusalMeaning.{Turned, turned}
-use Rattle.lands.specs.Walks.{Walkable}
-use Rattle.lands.proofs.Gathering.{Lands, lands-landsOf}
+use Rattle.afresh.specs.Walks.{Walkable}
+use Rattle.afresh.proofs.Gathering.{Lands, lands-landsOf}
 use Rattle.sheet.specs.Stages.{sheetIn}
 use Rattle.sheet.proofs.Parts.{length-turns}
 use Rattle.sheet.proofs.Permuting.{turns-permute}

@@ -14,8 +14,8 @@ use Rattle.rules.specs.Refusals.{passed, fileTests, turnTests}
 use Rattle.rules.specs.Laying.{filled}
 use Rattle.rules.specs.Sheets.{isFlat}
 use Rattle.plate.specs.State.{mostDarts}
-use Rattle.lands.specs.Walks.{Walkable}
-use Rattle.lands.proofs.Gathering.{lands-landsOf}
+use Rattle.afresh.specs.Walks.{Walkable}
+use Rattle.afresh.proofs.Gathering.{lands-landsOf}
 use Rattle.sheet.specs.Stages.{landsIn}
 use Rattle.sheet.proofs.Parts.{Known, length-turns}
 use Rattle.sheet.proofs.Accepted.{walkable}

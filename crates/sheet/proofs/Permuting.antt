@@ -1,24 +1,17 @@
 -- Turns that lead to darts, no two to the same, permute the darts.
--- at-place: what stands in a list stands at some place. places-once: a list whose places differ holds none twice. turns-permute: each dart is the turn of one dart.
+-- place-of: what stands in a list stands at some place. places-once: a list whose places differ holds none twice. turns-permute: each dart is the turn of one dart.
 -- Assumes nothing.
 use mathlib.Core.Path.{_≡_, sym, ap, _∙_, subst}
 use mathlib.Core.Logic.{⊎-elim}
 use mathlib.Core.List.{List, [], _∷_}
 use Prim.Native.Nat.{ℕ, suc, _≤_, _<_}
-use native.Mathlib.Nat.{not-suc-le-zero, eq-zero-or-pos}
+use native.Mathlib.Nat.{eq-zero-or-pos}
 use native.Mathlib.Omega.{arith}
 use lib.ListN.{length, getD}
 use Rattle.rules.specs.Lists.{from}
 use Rattle.laws.proofs.Counts.{is, is-self, is-cases, count, zero-of}
-use Rattle.laws.proofs.Lists.{count-from, from-lt}
-use Rattle.reach.proofs.Seeking.{length-from}
+use Rattle.laws.proofs.Lists.{count-from, from-lt, place-of, length-from}
 use Rattle.rings.proofs.Rings.{filled-up}
-
--- what stands in a list stands at some place
-at-place : (l : List ℕ) (z : ℕ) → 1 ≤ count z l → (i : ℕ) × (i < length l) × (getD l i 0 ≡ z)
-unfolding count
-at-place [] z h = absurd (not-suc-le-zero h)
-at-place (x ∷ l) z h = ⊎-elim (λ e. (0, omega arith, sym e)) (λ m. let r = at-place l z (omega arith) in (suc (r .0), omega (arith, r .1), r .2)) (is-cases z x)
 
 -- a list whose places differ holds none twice
 places-once : (l : List ℕ) → ((i j : ℕ) → i < length l → j < length l → getD l i 0 ≡ getD l j 0 → i ≡ j) → (z : ℕ) → count z l ≤ 1
@@ -28,7 +21,7 @@ places-once (x ∷ l) h z =
     let rest = places-once l (λ i j a b e. suc-same i j (h (suc i) (suc j) (omega arith) (omega arith) e)) z in
     ⊎-elim
     (λ e.
-    let none : count z l ≡ 0 = zero-of _ (λ k. let r = at-place l z k in no-zero (r .0) (h 0 (suc (r .0)) (omega arith) (omega (arith, r .1)) (sym e ∙ sym (r .2)))) in
+    let none : count z l ≡ 0 = zero-of _ (λ k. let r = place-of l z k in no-zero (r .0) (h 0 (suc (r .0)) (omega arith) (omega (arith, r .1)) (sym e ∙ sym (r .2)))) in
     omega (arith, is-self z, ap (is z) e))
     (λ m. omega arith)
     (is-cases z x)
@@ -53,7 +46,7 @@ turns-permute t dart apart d h =
     less y =
         ⊎-elim (λ k. omega arith)
         (λ k.
-        let r = at-place t y k in
+        let r = place-of t y k in
         let b : y < length t = subst (λ (m : ℕ). m < length t) (r .2) (dart (r .0) (r .1)) in
         omega (arith, places-once t apart y, count-from y 0 (length t) (omega arith) (omega arith)))
         (eq-zero-or-pos (count y t))

@@ -136,7 +136,7 @@ fn judge_lands(file: &[u8], darts: &mut [u16], lengths: &mut [u16]) -> Count
     let head = plate::counts(file);
     let n = 2 * head.channels;
     let turns = turns_in(file);
-    let lands = lands::list_lands(&turns[..n], darts, lengths);
+    let lands = afresh::list_lands(&turns[..n], darts, lengths);
     let flat = head.ports + lands == head.channels + 2;
     Count { lands, flat }
 }

@@ -3,7 +3,7 @@
 --   blank               as many turns as t has, all missing
 --   t′, ls              the turns and the lands after the first cycle
 -- from-first, to-last, back-last: the cycle from its first dart on, up to its last, and its reverse. close-front, close-rest, closed: what `close` asks of the functions that it calls, and what it leaves.
--- blank-of: what `fill` leaves. store-pair: the first two lands. begin-darts, begin-cycle, begin-back, begun: what `begin` asks of the functions that it calls, and what it leaves.
+-- blank-of: what `fill` leaves. first-two: the first two lands. begin-darts, begin-cycle, begin-back, begun: what `begin` asks of the functions that it calls, and what it leaves.
 -- Assumes nothing.
 use mathlib.Core.Path.{_≡_, refl, sym, ap, _∙_, subst}
 use mathlib.Core.List.{List, [], _∷_, _++_, append-nil}
@@ -19,6 +19,7 @@ use Rattle.laws.proofs.Runs.{reverse-reverse, count-back, length-back, length-l
 use Rattle.laws.proofs.Links.{length-link}
 use Rattle.laws.proofs.Sound.{Sound}
 use Rattle.laws.proofs.FirstCycle.{back-head, sound-cycle}
+use Rattle.laws.proofs.Lists.{first-two}
 use Rattle.land.specs.Walks.{landFrom, lands, Below, Darts}
 use Rattle.land.proofs.Walking.{reverse-inside}
 use Rattle.land.proofs.Linking.{below-at, back-snoc}
@@ -78,12 +79,6 @@ blank-of t mark e =
     let all : length t - 0 ≡ length t = omega arith in
     ap (λ (m : List ℕ). replicate (length t - 0) mark ++ m) (drop-length t) ∙ append-nil (replicate (length t - 0) mark)
     ∙ ap (λ (k : ℕ). replicate k mark) all ∙ ap (replicate (length t)) e
-
--- two stores at the front
-store-pair : (fs : List ℕ) (u v : ℕ) → 2 ≤ length fs → take 2 (set (set fs 0 u) 1 v) ≡ u ∷ v ∷ []
-store-pair [] u v h = absurd (not-suc-le-zero h)
-store-pair (d ∷ []) u v h = absurd (not-suc-le-zero {n = 0} (omega arith))
-store-pair (d ∷ e ∷ fs) u v h = refl
 
 module _ (t fs ns l : List ℕ) (C : Cyclic t fs ns l) where
   abbrev blank : List ℕ
@@ -161,8 +156,8 @@ module _ (t fs ns l : List ℕ) (C : Cyclic t fs ns l) where
 
       renewed : Renewed ls 2 fs ns fs′ ns′
       renewed = record {
-        firsts = ap (take 2) all-firsts ∙ store-pair fs (first (listed l)) (first (listed (back l))) (C .starts);
-        lens = ap (take 2) all-lens ∙ store-pair ns (length (listed l)) (length (listed (back l))) (C .sizes);
+        firsts = ap (take 2) all-firsts ∙ first-two fs (first (listed l)) (first (listed (back l))) (C .starts);
+        lens = ap (take 2) all-lens ∙ first-two ns (length (listed l)) (length (listed (back l))) (C .sizes);
         other-firsts = ap (drop 2) all-firsts ∙ store-other fs 1 0 _ _ (omega arith);
         other-lens = ap (drop 2) all-lens ∙ store-other ns 1 0 _ _ (omega arith);
         starts = ap length all-firsts ∙ store-length fs 1 0 _ _;

@@ -1,9 +1,9 @@
 -- A land of sound turns, walked from whichever of its darts: the darts come in another order, and the smallest of them, with which the land is listed, is the same.
--- least-low, least-le, least-in, least-same: the smallest number of a list depends only on what stands in it. least-first: it is a dart. cut-at: a list is cut at any of its numbers. round-..: a land walked from any of its darts.
+-- least-le, least-low, least-in, least-same: the smallest number of a list depends only on what stands in it. least-first: it is a dart. cut-at: a list is cut at any of its numbers. round-..: a land walked from any of its darts.
 -- walked-..: a land of sound turns, listed, and walked from any of its darts: it can be walked, its smallest dart is the one that it is listed from, and it has no more darts than there are.
 -- Assumes nothing.
 use mathlib.Core.Path.{_≡_, refl, sym, ap, _∙_, subst}
-use mathlib.Core.Logic.{_⊎_, inl, inr, ⊎-elim}
+use mathlib.Core.Logic.{⊎-elim}
 use mathlib.Core.Bool.{Bool, true, false, cond}
 use mathlib.Core.List.{List, [], _∷_, _++_}
 use Prim.Native.Nat.{ℕ, zero, suc, _+_, _%_, _<_, _≤_}
@@ -14,8 +14,8 @@ use lib.Dec.{ltb}
 use lib.ListN.{length, getD}
 use Rattle.rules.specs.Terms.{missing, laid, next, least, listed}
 use Rattle.rules.specs.Laying.{first}
-use Rattle.laws.proofs.Counts.{T-flag, flag-le, is, is-self, is-cases, count, count-head, count-append, pigeon}
-use Rattle.laws.proofs.Runs.{Land, count-listed, length-listed}
+use Rattle.laws.proofs.Counts.{T-flag, flag-le, is-self, is-cases, count, count-head, count-append, pigeon}
+use Rattle.laws.proofs.Runs.{Land, count-listed, length-listed, least-le, least-low, least-in}
 use Rattle.laws.proofs.Links.{laid-lt}
 use Rattle.laws.proofs.Sound.{all-at, count-at, Sound}
 use Rattle.land.specs.Walks.{landFrom, Darts}
@@ -31,31 +31,9 @@ lower-le d m = go (ltb d m) refl
     go true e = (omega arith, omega (arith, ltb-true d m e))
     go false e = (omega (arith, ltb-false d m e), omega arith)
 
-pub least-low : (m : ℕ) (l : List ℕ) → least m l ≤ m
-unfolding least
-least-low m [] = omega arith
-least-low m (d ∷ l) = omega (arith, least-low (cond (ltb d m) d m) l, lower-le d m .1)
-
-pub least-le : (m : ℕ) (l : List ℕ) (z : ℕ) → 1 ≤ count z l → least m l ≤ z
-unfolding least count
-least-le m [] z h = absurd (not-suc-le-zero h)
-least-le m (d ∷ l) z h =
-    ⊎-elim (λ e. omega (arith, least-low (cond (ltb d m) d m) l, lower-le d m .0)) (λ n. least-le (cond (ltb d m) d m) l z (omega arith)) (is-cases z d)
-
-pub least-in : (m : ℕ) (l : List ℕ) → (least m l ≡ m) ⊎ (1 ≤ count (least m l) l)
-unfolding least count
-least-in m [] = inl refl
-least-in m (d ∷ l) = go (ltb d m) (least-in (cond (ltb d m) d m) l)
-  where
-    go : (b : Bool) → (least (cond b d m) l ≡ cond b d m) ⊎ (1 ≤ count (least (cond b d m) l) l) → (least (cond b d m) l ≡ m) ⊎ (1 ≤ is (least (cond b d m) l) d + count (least (cond b d m) l) l)
-    go true (inl e) = inr (omega (arith, is-self d, ap (λ (z : ℕ). is z d) e))
-    go true (inr k) = inr (omega arith)
-    go false (inl e) = inl e
-    go false (inr k) = inr (omega arith)
-
 least-at-most : (m : ℕ) (l r : List ℕ) → ((z : ℕ) → count z l ≡ count z r) → least m l ≤ least m r
 least-at-most m l r same =
-    ⊎-elim (λ e. omega (arith, least-low m l)) (λ k. least-le m l (least m r) (omega (arith, same (least m r)))) (least-in m r)
+    ⊎-elim (λ e. omega (arith, least-le m l)) (λ k. least-low m l (least m r) (omega (arith, same (least m r)))) (least-in m r)
 
 pub least-same : (m : ℕ) (l r : List ℕ) → ((z : ℕ) → count z l ≡ count z r) → least m l ≡ least m r
 least-same m l r same = omega (arith, least-at-most m l r same, least-at-most m r l (λ z. sym (same z)))
@@ -64,7 +42,7 @@ least-same m l r same = omega (arith, least-at-most m l r same, least-at-most m 
 pub least-first : (t : List ℕ) (n d : ℕ) → 0 < n → Darts t (landFrom t n d) → (least missing (landFrom t n d) ≤ d) × (d < missing)
 unfolding landFrom
 least-first t zero d h p = absurd (not-suc-le-zero h)
-least-first t (suc n) d h p = (least-le missing (d ∷ landFrom t n (next t d)) d (count-head d (landFrom t n (next t d))), omega (arith, p .few, p .inside .0))
+least-first t (suc n) d h p = (least-low missing (d ∷ landFrom t n (next t d)) d (count-head d (landFrom t n (next t d))), omega (arith, p .few, p .inside .0))
 
 -- ---- a land walked from any of its darts
 

@@ -10,6 +10,10 @@ ghost use Rattle.rules.specs.Laying.{back, link, around};
 ghost use Rattle.laws.proofs.Runs.{Land};
 ghost use Rattle.land.specs.Walks.{landFrom, Darts};
 ghost use Rattle.split.specs.Halves.{Found, Divisible, Divided, Cyclic, Begun};
+use numbers::fill;
+use numbers::narrow;
+use numbers::reverse;
+use numbers::wide;
 
 // A stretch of a land: its first dart, its last, and how many it has.
 struct Stretch {
@@ -22,21 +26,6 @@ struct Stretch {
 struct Stretches {
     a: Stretch,
     b: Stretch,
-}
-
-// The number x as an index.
-fn wide(x: u16) -> usize
-    ensures { λ r. ⌜ (r ≡ x) × (r < 65536) ⌝ }
-{
-    x as usize
-}
-
-// The number x, which is below 65,536, in 16 bits.
-fn narrow(x: usize) -> u16
-    requires { ⌜ x < 65536 ⌝ }
-    ensures { λ r. ⌜ r ≡ x ⌝ }
-{
-    x as u16
 }
 
 // The stretches A and B of the land of the n darts from d on, which visits x and y.
@@ -121,7 +110,7 @@ fn close(turns: &mut [u16], cycle: &[u16])
 {
     let end = cycle.len() - 1;
     let d = wide(cycle[0]);
-    let e = land::reverse(wide(cycle[end]));
+    let e = reverse(wide(cycle[end]));
     land::link_back(turns, e, &cycle[..end], e);
     land::link(turns, d, &cycle[1..], d);
 }
@@ -133,10 +122,10 @@ pub fn begin(turns: &mut [u16], firsts: &mut [u16], lens: &mut [u16], cycle: &[u
     ensures { λ _. ⌜ Begun (now (turns .entry)) (now (firsts .entry)) (now (lens .entry)) (now (cycle .entry)) (now (turns .exit)) (now (firsts .exit)) (now (lens .exit)) ⌝ }
 {
     let all = turns.len();
-    land::fill(turns, 0, all, mark);
+    fill(turns, 0, all, mark);
     close(turns, cycle);
     let n = cycle.len();
     let d = wide(cycle[0]);
     renew(turns, firsts, lens, 0, d, n);
-    renew(turns, firsts, lens, 1, land::reverse(d), n);
+    renew(turns, firsts, lens, 1, reverse(d), n);
 }

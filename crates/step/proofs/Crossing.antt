@@ -5,19 +5,19 @@
 use mathlib.Core.Path.{_≡_, refl, sym, ap, _∙_, subst}
 use mathlib.Core.Bool.{Bool, true, false, not, _&&_, _||_}
 use mathlib.Core.List.{List, _∷_, map}
-use Prim.Native.Nat.{ℕ, _+_, _*_, _/_, _≤_, _<_}
+use Prim.Native.Nat.{ℕ, _*_, _/_, _≤_, _<_}
 use native.Mathlib.Omega.{arith}
 use lib.Dec.{T, eqb}
 use lib.ListN.{length, getD, set, replicate, length-set, length-replicate}
 use Rattle.rules.specs.Lists.{from, at}
 use Rattle.rules.specs.Terms.{missing, leaves, enters, reverse}
-use Rattle.rules.specs.Ways.{only, iter, larger, path, inPlay}
+use Rattle.rules.specs.Ways.{only, path, inPlay}
 use Rattle.rules.specs.Laying.{Fragment, within, fragmentAt, contactsOf, cycle}
 use Rattle.laws.proofs.Sets.{at-lt}
 use Rattle.laws.proofs.Trails.{leaves-reverse}
 use Rattle.laws.proofs.Reaches.{whole-of, dart-reverse, reached-iff}
 use Rattle.laws.proofs.FirstCycle.{start-channel, start-dart, round-way}
-use Rattle.reach.specs.Floods.{Sized, Tables}
+use Rattle.reach.specs.Floods.{Tables}
 use Rattle.way.specs.Marks.{Sizes, reachedBy, pathOver}
 use Rattle.fragment.specs.Fragments.{Wired, Lent}
 use Rattle.step.specs.Rooms.{Desk, contactsAt, pathAt, Passable, Plan}
@@ -82,10 +82,6 @@ module _ (v : ℕ) (ends : List ℕ) (play : List Bool) (first more : List ℕ) 
     )
 
 -- ---- the way back of the first cycle
-
-pub end-second : (ends : List ℕ) (c : ℕ) → getD ends (2 * c + 1) 0 ≡ enters ends (2 * c)
-unfolding enters reverse
-end-second ends c = ap (λ (d : ℕ). getD ends d 0) (omega arith)
 
 pub end-first : (ends : List ℕ) (c : ℕ) → getD ends (2 * c) 0 ≡ leaves ends (2 * c)
 unfolding leaves

@@ -15,12 +15,12 @@ use Rattle.rules.specs.Lists.{from, at}
 use Rattle.rules.specs.Terms.{missing, leaves, enters, reverse}
 use Rattle.rules.specs.Ways.{only, iter, mark, grow, larger, layers, leads, closer, nearest, descend, path, inPlay}
 use Rattle.rules.specs.Laying.{Fragment, within}
-use Rattle.laws.proofs.Tests.{eqb-yes, eqb-no}
+use Rattle.laws.proofs.Tests.{eqb-yes, eqb-no, same-flag, and-true}
 use Rattle.laws.proofs.Counts.{is-cases, is-apart}
 use Rattle.laws.proofs.Lists.{All, all-of, from-lt}
 use Rattle.laws.proofs.Runs.{reverse-reverse, channel-darts}
 use Rattle.laws.proofs.Fragments.{within-reverse}
-use Rattle.reach.proofs.Seeking.{getD-map-from}
+use Rattle.laws.proofs.Seeking.{getD-map-from}
 
 -- every one of 0, .., n − 1 is below n
 all-from : (n : ℕ) → All (λ d. d < n) (from 0 n)
@@ -81,13 +81,6 @@ module _ (ends : List ℕ) (ok ok′ : ℕ → Bool) (uses : (d : ℕ) → d < l
 
 -- ---- the flags that the code holds
 
--- two flags that imply each other
-both : (a b : Bool) → (T a → T b) → (T b → T a) → a ≡ b
-both true true f g = refl
-both false false f g = refl
-both true false f g = absurd (f tt)
-both false true f g = absurd (g tt)
-
 zero-add : (n : ℕ) → 0 + n ≡ n
 zero-add n = omega arith
 
@@ -95,7 +88,7 @@ zero-add n = omega arith
 within-even : (v : ℕ) (ends : List ℕ) (play : List Bool) (f : Fragment) (d : ℕ) → within v ends play f (2 * (d / 2)) ≡ within v ends play f d
 within-even v ends play f d =
     ⊎-elim (λ e. ap (within v ends play f) (sym e))
-    (λ e. both _ _ (λ t. subst (λ (z : ℕ). T (within v ends play f z)) (sym e) (within-reverse v ends play f (2 * (d / 2)) t))
+    (λ e. same-flag _ _ (λ t. subst (λ (z : ℕ). T (within v ends play f z)) (sym e) (within-reverse v ends play f (2 * (d / 2)) t))
     (λ t. subst (λ (z : ℕ). T (within v ends play f z)) (ap reverse e ∙ reverse-reverse (2 * (d / 2))) (within-reverse v ends play f d t)))
     (channel-darts d (d / 2) refl)
 
@@ -107,10 +100,6 @@ own-is v ends play f own e h d l =
     ∙ getD-map-from (λ j. within v ends play f (2 * j)) 0 (length play) (d / 2) false (omega (arith, e))
     ∙ ap (λ (k : ℕ). within v ends play f (2 * k)) (zero-add (d / 2))
     ∙ within-even v ends play f d
-
-and-true : (b : Bool) → b && true ≡ b
-and-true true = refl
-and-true false = refl
 
 and-false : (b : Bool) → b && false ≡ false
 and-false true = refl
@@ -131,7 +120,3 @@ unfolding at
 free-is v p l = getD-replicate v p true false l
 
 -- every flag set
-pub map-true : (i n : ℕ) → map (λ (p : ℕ). true) (from i n) ≡ replicate n true
-unfolding from
-map-true i zero = refl
-map-true i (suc n) = ap (λ (l : List Bool). true ∷ l) (map-true (suc i) n)

@@ -4,27 +4,27 @@
 -- can-divide, did-divide: the path found can be laid, and then the state after it is held. can-begin, did-begin: so it is with the first cycle.
 -- Assumes nothing.
 use mathlib.Core.Path.{_≡_, refl, sym, ap, _∙_, subst}
-use mathlib.Core.Bool.{Bool, true}
+use mathlib.Core.Bool.{Bool}
 use mathlib.Core.List.{List, [], _∷_, _++_}
 use Prim.Native.Nat.{ℕ, _+_, _*_, _<_, _≤_}
 use native.Mathlib.Omega.{arith}
 use lib.Dec.{T}
-use lib.ListN.{length, getD, set, take, length-append, length-set}
+use lib.ListN.{length, getD, set, take, length-append}
 use Rattle.rules.specs.Lists.{at}
-use Rattle.rules.specs.Terms.{missing, laid, listed}
-use Rattle.rules.specs.Laying.{State, Choice, Path, back, before, since, splitLands, admissible, fragmentAt, choiceOf, cycle, start, lay, firstChannel, firstCycle}
+use Rattle.rules.specs.Terms.{laid, listed}
+use Rattle.rules.specs.Laying.{State, Choice, back, before, since, splitLands, admissible, fragmentAt, choiceOf, cycle, start, lay, firstChannel, firstCycle}
 use Rattle.laws.proofs.Tests.{T-is}
 use Rattle.laws.proofs.Sets.{at-lt}
 use Rattle.laws.proofs.Runs.{length-back, length-listed}
 use Rattle.laws.proofs.Split.{before-since}
 use Rattle.laws.proofs.Euler.{lengthAll, length-all-set, length-all-snoc}
-use Rattle.laws.proofs.Choices.{Open, Sensible, laidNow}
-use Rattle.laws.proofs.Rounds.{Layable, Kept, kept-port, kept-lay, lay-contacts, lay-contact, lay-reachable, lay-fits}
+use Rattle.laws.proofs.Choices.{Open, laidNow}
+use Rattle.laws.proofs.Rounds.{Layable, Kept, kept-port, kept-lay, lay-contacts, lay-contact, lay-reachable}
 use Rattle.laws.proofs.FirstCycle.{kept-start, first-play}
 use Rattle.laws.proofs.Counting.{laidChannels, rows-most, length-concat, length-laid}
 use Rattle.fragment.specs.Rounds.{laidBy}
 use Rattle.split.specs.Halves.{Divisible, Divided, Cyclic, Begun}
-use Rattle.split.proofs.Laws.{Holds, pathOf, lay-divisible, holds-lay, start-cyclic, holds-start}
+use Rattle.split.proofs.Laws.{pathOf, lay-divisible, holds-lay, start-cyclic, holds-start}
 use Rattle.step.specs.Stories.{entryOf, storyOf}
 use Rattle.step.specs.Rooms.{contactsAt, pathAt, Passable, Standing, Chosen, Plan}
 use Rattle.step.proofs.Writing.{story-more}

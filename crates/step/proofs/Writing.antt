@@ -4,11 +4,10 @@
 -- Assumes nothing.
 use mathlib.Core.Path.{_≡_, refl, sym, ap, _∙_, subst}
 use mathlib.Core.List.{List, [], _∷_, _++_, map, append-nil, append-assoc}
-use Prim.Native.Nat.{ℕ, suc, _+_, _-_, _≤_, _<_, min}
-use native.Mathlib.Numerals.{add-one}
+use Prim.Native.Nat.{ℕ, suc, _+_, _-_, _≤_}
 use native.Mathlib.Omega.{arith}
-use lib.ListN.{length, getD, set, take, drop, length-append, length-take, length-drop, drop-of-length-le, take-append-drop}
-use lib.Seq.{take-add, drop-cons, take-at, drop-at, length-take-le, take-all, take-append-le, drop-drop}
+use lib.ListN.{length, getD, set, take, drop, length-append, length-take, length-drop}
+use lib.Seq.{take-add, drop-cons, take-at, drop-at, length-take-le}
 use Rattle.rules.specs.Lists.{concat}
 use Rattle.rules.specs.Laying.{Path}
 use Rattle.step.specs.Stories.{entryOf, storyOf}

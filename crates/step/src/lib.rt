@@ -2,11 +2,14 @@
 ghost use mathlib.Core.Path.{_≡_};
 ghost use mathlib.Core.Bool.{true, false};
 ghost use Prim.Native.Nat.{_+_, _*_, _<_, _≤_};
-ghost use lib.ListN.{length, set, replicate};
+ghost use lib.ListN.{length, set};
 ghost use Rattle.rules.specs.Lists.{at, seek};
 ghost use Rattle.rules.specs.Laying.{State, Choice, start, lay, firstChannel};
 ghost use Rattle.reach.specs.Floods.{Tables};
 ghost use Rattle.step.specs.Rooms.{Desk, Passable, Crossed, Standing, Chosen, Plan};
+use numbers::mark_all;
+use numbers::narrow;
+use numbers::wide;
 use plate::Plate;
 
 // A path: the two ports that it joins, and how many darts it has.
@@ -14,21 +17,6 @@ struct Way {
     x: usize,
     y: usize,
     size: usize,
-}
-
-// The number x as an index.
-fn wide(x: u16) -> usize
-    ensures { λ r. ⌜ (r ≡ x) × (r < 65536) ⌝ }
-{
-    x as usize
-}
-
-// The number x, which is below 65,536, in 16 bits.
-fn narrow(x: usize) -> u16
-    requires { ⌜ x < 65536 ⌝ }
-    ensures { λ r. ⌜ r ≡ x ⌝ }
-{
-    x as u16
 }
 
 // The lowest channel in play; the number of channels where none is.
@@ -57,17 +45,6 @@ fn all_but(play: &[bool], c: usize, own: &mut [bool])
         k += 1;
     }
     own[c] = false;
-}
-
-// Every port free.
-fn free_all(free: &mut [bool])
-    ensures { λ _. ⌜ now (free .exit) ≡ replicate (length (now (free .entry))) true ⌝ }
-{
-    let mut p = 0;
-    while p < free.len() {
-        free[p] = true;
-        p += 1;
-    }
 }
 
 // The front of an entry of the story: a path's fragment, its land, and how many darts it has.
@@ -212,7 +189,7 @@ pub fn lay_first(
     let a = wide(ends[d]);
     let b = wide(ends[d + 1]);
     all_but(play, c, own);
-    free_all(inside);
+    mark_all(inside, true);
     let n = way::path(ends, first, more, own, inside, b, a, far, &mut story[2..]);
     story[0] = narrow(n + 1);
     story[1] = narrow(d);

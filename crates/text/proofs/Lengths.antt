@@ -17,7 +17,7 @@ use Rattle.rules.specs.Refusals.{Plate}
 use Rattle.rules.specs.Laying.{Path}
 use Rattle.rules.specs.Listing.{decimal, fields, line, pathLine, landLines, portLine}
 use Rattle.laws.proofs.Counts.{flag, is, count}
-use Rattle.laws.proofs.Lists.{All, from-once}
+use Rattle.laws.proofs.Lists.{All, from-once, length-from}
 use Rattle.laws.proofs.Euler.{lengthAll}
 use Rattle.land.specs.Walks.{Below, BelowAll}
 use Rattle.print.proofs.Digits.{decimal-few}
@@ -132,11 +132,6 @@ spread-all : (ends : List ℕ) (i n : ℕ) → degrees ends i n ≡ spread ends 
 unfolding degrees spread dartsAt
 spread-all ends i zero = refl
 spread-all ends i (suc n) = omega (arith, spread-all ends (suc i) n)
-
-length-from : (i n : ℕ) → length (from i n) ≡ n
-unfolding from
-length-from i zero = refl
-length-from i (suc n) = ap suc (length-from (suc i) n)
 
 pub degrees-few : (ends : List ℕ) (i n : ℕ) → degrees ends i n ≤ length ends
 degrees-few ends i n = omega (arith, spread-all ends i n, spread-few ends (from 0 (length ends)) i n, length-from 0 (length ends))

@@ -5,18 +5,12 @@ ghost use Prim.Native.Nat.{_+_, _*_, _/_, _≤_};
 ghost use lib.ListN.{length, replicate};
 ghost use Rattle.print.specs.Puts.{Put};
 ghost use Rattle.text.specs.Calls.{mostBytes, listedCount, listedLeft, linesOf, Filed};
+use numbers::wide32;
 use plate::Plate;
 use plate::Reading;
 
 // The bytes that the call is to be lent. No listing has more.
 pub const MOST: usize = 65536;
-
-// The number x as an index.
-fn wide(x: u32) -> usize
-    ensures { λ r. ⌜ r ≡ x ⌝ }
-{
-    x as usize
-}
 
 // Lays a plate in the slices lent, and writes its listing.
 fn list_laid(
@@ -144,6 +138,6 @@ pub fn listing(file: &[u8], out: &mut [u8]) -> usize
             let end = Plate::PAIRS_AT + 2 * p.channels;
             list_pairs(&file[Plate::PAIRS_AT..end], p.ports, out)
         }
-        Reading::Refused(x) => lines::refused_line(out, 0, wide(x.number), wide(x.place)),
+        Reading::Refused(x) => lines::refused_line(out, 0, wide32(x.number), wide32(x.place)),
     }
 }

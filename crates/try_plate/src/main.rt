@@ -1,14 +1,8 @@
 // Plate files to try: reads them from standard input, one after another, each behind its length in two bytes, and prints what reading each gives and how many bytes its pairs have.
 ghost use Prim.Native.Nat.{_<_, _≤_};
 ghost use lib.ListN.{length};
+use numbers::wide8;
 use plate::Reading;
-
-// A byte as a number.
-fn wide(x: u8) -> usize
-    ensures { λ r. ⌜ r < 256 ⌝ }
-{
-    x as usize
-}
 
 // Prints a space and a number.
 fn number(x: usize) {
@@ -43,7 +37,7 @@ fn one(all: &[u8], at: usize) -> usize
     if size - at < 2 {
         return size;
     }
-    let n = wide(all[at]) + 256 * wide(all[at + 1]);
+    let n = wide8(all[at]) + 256 * wide8(all[at + 1]);
     let from = at + 2;
     if size - from < n {
         return size;

@@ -3,7 +3,7 @@
 --   better ends ok s d b         of dart d and the best dart b so far, the one to take at the port that d leaves
 --   led ends ok s d b t          t says whether dart d is usable and enters s
 -- nearest-keep: the nearest of all darts is the nearest of those that leave p. start, step, end: the beginning of the loop of `nearest`, a turn, and its end.
--- not-led, first-found, smaller, no-smaller: the better of two darts, by the tests that the code of `closer` makes. first-.., more-..: what the tables hold.
+-- not-led, first-found, smaller, no-smaller: the better of two darts, by the tests that the code of `closer` makes.
 -- Assumes nothing.
 use mathlib.Core.Path.{_≡_, refl, sym, ap, _∙_}
 use mathlib.Core.Logic.{_≢_, _⊎_, inl, inr}
@@ -12,15 +12,14 @@ use mathlib.Core.List.{List, [], _∷_}
 use Prim.Native.Nat.{ℕ, _≤_, _<_}
 use borrow.Author.Tests.{eq-eqb, ne-eqb, lt-ltb, le-ltb}
 use lib.Dec.{T, eqb, ltb}
-use lib.ListN.{length, getD}
+use lib.ListN.{length}
 use Rattle.rules.specs.Lists.{from, keep, at}
 use Rattle.rules.specs.Terms.{missing, there, leaves, enters, dartsAt}
 use Rattle.rules.specs.Ways.{leads, closer, nearest}
-use Rattle.laws.proofs.Tests.{cond-cases, and-T, neqb→ne}
+use Rattle.laws.proofs.Tests.{cond-cases, and-T, neqb→ne, and-true}
 use Rattle.laws.proofs.Paths.{leads-T}
 use Rattle.reach.specs.Neighbours.{firstDart, moreDart}
-use Rattle.reach.specs.Floods.{Tables}
-use Rattle.reach.proofs.Chains.{chain, chain-none, chain-first, chain-more, first-leaves, more-leaves, first-at, more-at, length-firstDarts, length-moreDarts}
+use Rattle.reach.proofs.Chains.{chain, chain-none, chain-first, chain-more, first-leaves, more-leaves}
 
 module _ (ends : List ℕ) (ok : ℕ → Bool) (p : ℕ) (s : List Bool) where
   -- a dart that leaves another port is not taken
@@ -76,10 +75,6 @@ module _ (ends : List ℕ) (ok : ℕ → Bool) (p : ℕ) (s : List Bool) where
 
 -- ---- the better of two darts
 
-and-true : (a : Bool) → a && true ≡ a
-and-true true = refl
-and-true false = refl
-
 module _ (ends : List ℕ) (ok : ℕ → Bool) (s : List Bool) (d b : ℕ) where
   -- of dart d, at the port that it leaves, and b
   abbrev pub better : ℕ
@@ -109,18 +104,3 @@ module _ (ends : List ℕ) (ok : ℕ → Bool) (s : List Bool) (d b : ℕ) where
     pub no-smaller : b ≢ missing → enters ends b ≤ enters ends d → b ≡ better
     unfolding closer there
     no-smaller n l = rw (leads-as true e, ne-eqb b missing n, le-ltb (enters ends d) (enters ends b) l)
-
--- ---- the tables
-
-module _ (v : ℕ) (ends first more : List ℕ) (t : Tables v ends first more) where
-  pub first-long : length first ≡ v
-  first-long = ap length (t .firsts) ∙ length-firstDarts v ends
-
-  pub more-long : length more ≡ length ends
-  more-long = ap length (t .mores) ∙ length-moreDarts ends
-
-  pub first-is : (p : ℕ) → p < v → getD first p 0 ≡ firstDart ends p
-  first-is p h = ap (λ (l : List ℕ). getD l p 0) (t .firsts) ∙ first-at v ends p h
-
-  pub more-is : (d : ℕ) → d < length ends → getD more d 0 ≡ moreDart ends d
-  more-is d h = ap (λ (l : List ℕ). getD l d 0) (t .mores) ∙ more-at ends d h

@@ -8,16 +8,16 @@ use mathlib.Core.Path.{_≡_, refl, sym, ap, _∙_, subst}
 use mathlib.Core.Bool.{Bool}
 use mathlib.Core.List.{List, [], _∷_, _++_}
 use Prim.Native.Nat.{ℕ, zero, suc, _+_, _-_, _≤_, _<_}
-use native.Mathlib.Nat.{add-zero, zero-add, not-suc-le-zero}
+use native.Mathlib.Nat.{zero-add, not-suc-le-zero}
 use native.Mathlib.Numerals.{add-one}
 use native.Mathlib.Omega.{arith}
 use lib.Dec.{T}
 use lib.ListN.{length, getD, set, take, drop}
-use lib.Seq.{paste, paste-suc, length-paste, getD-drop, drop-drop, take-all}
+use lib.Seq.{paste, paste-suc, length-paste, take-all}
 use Rattle.rules.specs.Lists.{from, at}
 use Rattle.rules.specs.Terms.{missing, enters}
 use Rattle.rules.specs.Ways.{inPlay, nearest, descend, path}
-use Rattle.laws.proofs.Lists.{All, all-of}
+use Rattle.laws.proofs.Lists.{All, all-of, drop-head}
 use Rattle.laws.proofs.Reaches.{whole-of, play-dart}
 use Rattle.laws.proofs.Paths.{darts-of, leads-usable, path-good}
 use Rattle.laws.proofs.Shortest.{length-descend}
@@ -41,12 +41,6 @@ front-next w o n h k =
 
 pub length-front : (w o : List ℕ) (n : ℕ) → n ≤ length w → n ≤ length o → length (front w o n) ≡ length o
 length-front w o n h k = ap length (sym (front-paste w o n)) ∙ length-paste o 0 w n (omega arith) h
-
-drop-head : (w : List ℕ) (n d : ℕ) (r : List ℕ) → drop n w ≡ d ∷ r → (getD w n 0 ≡ d) × (drop (n + 1) w ≡ r)
-drop-head w n d r e = (
-  ap (λ (i : ℕ). getD w i 0) (sym (add-zero n)) ∙ sym (getD-drop n w 0 0) ∙ ap (λ (l : List ℕ). getD l 0 0) e,
-  sym (drop-drop 1 n w) ∙ ap (drop 1) e,
-)
 
 all-at : (P : ℕ → Type 0) (l : List ℕ) → All P l → (i : ℕ) → i < length l → P (getD l i 0)
 all-at P [] a i h = absurd (not-suc-le-zero h)

@@ -11,24 +11,12 @@ ghost use Rattle.rules.specs.Terms.{missing, reverse, leaves, enters};
 ghost use Rattle.rules.specs.Ways.{inPlay, closer, nearest, descend};
 ghost use Rattle.reach.specs.Floods.{Tables};
 ghost use Rattle.way.specs.Marks.{Sizes, freeOr, begun, lowered, within, below, Passed, reachedBy, sets, pathOver, AllDarts};
+use numbers::narrow;
+use numbers::reverse;
+use numbers::wide;
 
 // Stands for no mark yet, and for no dart yet.
 const NONE: usize = 65535;
-
-// The number x in more bits.
-fn wide(x: u16) -> usize
-    ensures { λ r. ⌜ (r ≡ x) × (r < 65536) ⌝ }
-{
-    x as usize
-}
-
-// The number x, which is below 65,536, in 16 bits.
-fn narrow(x: usize) -> u16
-    requires { ⌜ x < 65536 ⌝ }
-    ensures { λ r. ⌜ r ≡ x ⌝ }
-{
-    x as u16
-}
 
 // The port that dart d enters.
 fn enters(ends: &[u16], d: usize) -> usize
@@ -36,7 +24,7 @@ fn enters(ends: &[u16], d: usize) -> usize
     requires dart { ⌜ reverse d < length (now ends) ⌝ }
     ensures { λ r. ⌜ r ≡ enters (now (ends .entry)) d ⌝ }
 {
-    let e = reach::reverse(d);
+    let e = reverse(d);
     wide(ends[e])
 }
 

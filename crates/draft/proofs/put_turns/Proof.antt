@@ -47,7 +47,7 @@ loop-again : tie.Need-loop-again Inv-loop μ-loop
 loop-again c =
     let l = c .before .before .before .before .before .before .before in
     let put = c .before .before .put-word in
-    (omega arith, put .kept .1 .0 ∙ l .loop .inv .1, put-turn _ _ _ _ _ _ (c .before .before .before .before .before .before .loop-test .taken) (l .before .before .before .pre) (l .loop .inv .2) (c .before .before .before .before .wide .ensures) (put .ensures))
+    (omega arith, put .kept .1 .0 ∙ l .loop .inv .1, put-turn _ _ _ _ _ _ (c .before .before .before .before .before .before .loop-test .taken) (l .before .before .before .pre) (l .loop .inv .2) (c .before .before .before .before .wide .ensures .0) (put .ensures))
 
 same-length : tie.Need-same-length Inv-loop μ-loop
 same-length c = c .before .loop .inv .1

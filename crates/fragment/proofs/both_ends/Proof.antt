@@ -4,7 +4,8 @@ use mathlib.Core.Path.{refl, _∙_}
 use native.Mathlib.Omega.{arith}
 use borrow.Author.Needs.{needs}
 use lib.ListN.{length-set}
-use Rattle.fragment.proofs.Contacting.{two-written, both-rising, both-falling}
+use Rattle.laws.proofs.Lists.{first-two}
+use Rattle.fragment.proofs.Contacting.{both-rising, both-falling}
 use Rattle.fragment.proofs.both_ends.Statement.{statement}
 use Rattle.fragment.proofs.both_ends.Tie as tie
 
@@ -38,7 +39,7 @@ same-length c = search needs
 returns : tie.Need-returns
 returns c =
     let s = c .before .before .before in
-    (simp length-set (s .pre .1), two-written (s .args .out .now) _ _ (s .pre .1) ∙ both-rising (s .args .ends .now) (s .args .k) _ _ refl refl (omega arith))
+    (simp length-set (s .pre .1), first-two (s .args .out .now) _ _ (s .pre .1) ∙ both-rising (s .args .ends .now) (s .args .k) _ _ refl refl (omega arith))
 
 slice-write-out-3 : tie.Need-slice-write-out-3
 slice-write-out-3 c = search needs
@@ -52,7 +53,7 @@ same-length-2 c = search needs
 returns-2 : tie.Need-returns-2
 returns-2 c =
     let s = c .before .before .before in
-    (simp length-set (s .pre .1), two-written (s .args .out .now) _ _ (s .pre .1) ∙ both-falling (s .args .ends .now) (s .args .k) _ _ refl refl (omega arith))
+    (simp length-set (s .pre .1), first-two (s .args .out .now) _ _ (s .pre .1) ∙ both-falling (s .args .ends .now) (s .args .k) _ _ refl refl (omega arith))
 
 pub both-ends-spec : {M : Type 1} → statement M
 both-ends-spec =

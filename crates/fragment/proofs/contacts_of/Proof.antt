@@ -33,10 +33,10 @@ module _ (c : tie.Start) where
 abbrev start : tie.After-spread → tie.Start
 start c = c .before .before .before .before .before .before .before .before .before .before .before .before
 
-abbrev at-clear : tie.After-clear → tie.After-spread
-at-clear c = c .before .before .before .before .before .before .before
+abbrev at-cleared : tie.After-mark-all → tie.After-spread
+at-cleared c = c .before .before .before .before .before .before .before
 
-abbrev at-touch : tie.After-touch-from → tie.After-clear
+abbrev at-touch : tie.After-touch-from → tie.After-mark-all
 at-touch c = c .before .before .before .before .before
 
 abbrev at-collect : tie.After-collect → tie.After-touch-from
@@ -47,12 +47,12 @@ abbrev met : tie.After-spread → List ℕ
 met c = take (c .spread .result) (c .spread .last .1 .1 .1 .1 .1 .1 .0)
 
 -- what is touched starts empty
-emptied : (c : tie.After-clear) → c .clear .last .0 ≡ replicate (v (start (at-clear c))) false
-emptied c = c .clear .ensures ∙ ap (λ (n : ℕ). replicate n false) (lent (start (at-clear c)) .ofTouched)
+emptied : (c : tie.After-mark-all) → c .mark-all .last .0 ≡ replicate (v (start (at-cleared c))) false
+emptied c = c .mark-all .ensures ∙ ap (λ (n : ℕ). replicate n false) (lent (start (at-cleared c)) .ofTouched)
 
 -- and is what they touch in the end
 abbrev at-met : tie.After-touch-from → tie.After-spread
-at-met c = at-clear (at-touch c)
+at-met c = at-cleared (at-touch c)
 
 touched : (c : tie.After-touch-from) → c .touch-from .last .1 .1 .1 .1 .1 .0
     ≡ touchFrom (start (at-met c) .args .ends .now) (start (at-met c) .args .play .now) (start (at-met c) .args .laid .now) (met (at-met c)) (replicate (v (start (at-met c))) false)
@@ -85,8 +85,8 @@ returns c =
     let e = c .before .before .both-ends .ensures in
     single-left _ _ _ _ (sized s) _ _ _ _ _ (p .spread .ensures) (s .pre .0 .loopless) (s .pre .1 .1 .1 .0) (c .before .before .before .before .if1 .taken) _ _ (e .0) (e .1)
 
-clear-requires : tie.Need-clear-requires
-clear-requires c κs = search needs
+mark-all-requires : tie.Need-mark-all-requires
+mark-all-requires c κs = search needs
 
 touch-from-requires : tie.Need-touch-from-requires
 touch-from-requires c κs =
@@ -130,7 +130,7 @@ contacts-of-spec =
     same-length-2
     same-length-3
     returns
-    clear-requires
+    mark-all-requires
     touch-from-requires
     collect-requires
     same-length-4

@@ -23,9 +23,9 @@ abbrev μ-loop : tie.MeasureT-loop
 abbrev begin : tie.At-loop Inv-loop μ-loop → tie.Start Inv-loop μ-loop
 begin c = c .before .before .before .before .before .before .before .before
 
--- `clear` keeps the number of ports
-kept : (c : tie.At-loop Inv-loop μ-loop) → length (c .before .before .before .clear .last .0) ≡ length (begin c .args .laid .now)
-kept c = ap length (c .before .before .before .clear .ensures) ∙ length-replicate (length (begin c .args .laid .now)) false
+-- `mark_all` keeps the number of ports
+kept : (c : tie.At-loop Inv-loop μ-loop) → length (c .before .before .before .mark-all .last .0) ≡ length (begin c .args .laid .now)
+kept c = ap length (c .before .before .before .mark-all .ensures) ∙ length-replicate (length (begin c .args .laid .now)) false
 
 -- the port that the dart leaves
 inside : (c : tie.After-wide Inv-loop μ-loop) → c .wide .result < length (c .before .before .before .before .before .loop .laid)
@@ -34,12 +34,12 @@ inside c =
     let l = c .before .before .before .before .before in
     omega (arith, begin l .pre .0 (l .loop .d) (omega arith), kept l, l .loop .inv .size)
 
-clear-requires : tie.Need-clear-requires Inv-loop μ-loop
-clear-requires c κs = search needs
+mark-all-requires : tie.Need-mark-all-requires Inv-loop μ-loop
+mark-all-requires c κs = search needs
 
 loop-holds : tie.Need-loop-holds Inv-loop μ-loop
 loop-holds c =
-    let e = c .before .before .clear .ensures in
+    let e = c .before .before .mark-all .ensures in
     covering-start _ _ _ _ (e ∙ ap (λ (n : ℕ). replicate n false) (sym (ap length e ∙ length-replicate (length (c .before .before .before .before .before .before .before .args .laid .now)) false)))
 
 is-laid-requires : tie.Need-is-laid-requires Inv-loop μ-loop
@@ -86,7 +86,7 @@ laid-ports-spec =
     (tie.spec
     Inv-loop
     μ-loop
-    clear-requires
+    mark-all-requires
     loop-holds
     is-laid-requires
     mul-wide

@@ -34,7 +34,7 @@ wide-requires : tie.Need-wide-requires Inv-loop μ-loop
 wide-requires c κs = search needs
 
 reverse-requires : tie.Need-reverse-requires Inv-loop μ-loop
-reverse-requires c κs = c .wide .ensures .1
+reverse-requires c κs = omega (arith, c .wide .ensures .1)
 
 lead-requires : tie.Need-lead-requires Inv-loop μ-loop
 lead-requires c κs = (

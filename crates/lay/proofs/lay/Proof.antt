@@ -28,10 +28,10 @@ enough c e =
 -- where it is laid, the call gives what laying comes to
 laid : (c : tie.After-slice-known6)
     → layPlate (c .before .before .before .before .before .before .before .before .before .before .before .before .before .before .before .before .before .before .before .before .before .before .before .before .before .args .file .now) (c .before .before .before .before .before .before .before .before .before .before .before .before .before .before .before .before .before .before .before .before .before .before .before .before .before .args .n) (length (c .before .before .before .before .before .before .before .before .before .before .before .before .before .before .before .before .before .before .before .before .before .before .before .before .before .args .turns .now)) (length (c .before .before .before .before .before .before .before .before .before .before .before .before .before .before .before .before .before .before .before .before .before .before .before .before .before .args .lands .now)) (length (c .before .before .before .before .before .before .before .before .before .before .before .before .before .before .before .before .before .before .before .before .before .before .before .before .before .args .lengths .now))
-    ≡ given (record { plate = plateIn (c .before .before .before .before .before .before .before .before .before .before .before .before .before .before .before .before .before .before .before .before .before .before .before .before .before .args .file .now); outcome = laidOut (plateIn (c .before .before .before .before .before .before .before .before .before .before .before .before .before .before .before .before .before .before .before .before .before .before .before .before .before .args .file .now)) (c .before .before .before .before .before .before .before .before .before .before .wide .result) })
+    ≡ given (record { plate = plateIn (c .before .before .before .before .before .before .before .before .before .before .before .before .before .before .before .before .before .before .before .before .before .before .before .before .before .args .file .now); outcome = laidOut (plateIn (c .before .before .before .before .before .before .before .before .before .before .before .before .before .before .before .before .before .before .before .before .before .before .before .before .before .args .file .now)) (c .before .before .before .before .before .before .before .before .before .before .wide32 .result) })
 laid c =
     call-laid _ _ (plate (c .before .before .before .before .before .before .before .before .before .before .before .before .before .before .before .before .before .before)) _ _ _ _ (short-so _ _ (plate (c .before .before .before .before .before .before .before .before .before .before .before .before .before .before .before .before .before .before)) _ _ _ _ _ _ refl refl (c .before .before .before .before .before .before .before .before .before .before .before .before .before .is-short .ensures) ∙ c .before .before .before .before .before .before .before .before .before .before .before .before .if1 .left)
-    ∙ ap (λ (n : ℕ). given (record { plate = plateIn (c .before .before .before .before .before .before .before .before .before .before .before .before .before .before .before .before .before .before .before .before .before .before .before .before .before .args .file .now); outcome = laidOut (plateIn (c .before .before .before .before .before .before .before .before .before .before .before .before .before .before .before .before .before .before .before .before .before .before .before .before .before .args .file .now)) n })) (sym (c .before .before .before .before .before .before .before .before .before .before .wide .ensures))
+    ∙ ap (λ (n : ℕ). given (record { plate = plateIn (c .before .before .before .before .before .before .before .before .before .before .before .before .before .before .before .before .before .before .before .before .before .before .before .before .before .args .file .now); outcome = laidOut (plateIn (c .before .before .before .before .before .before .before .before .before .before .before .before .before .before .before .before .before .before .before .before .before .before .before .before .before .args .file .now)) n })) (sym (c .before .before .before .before .before .before .before .before .before .before .wide32 .ensures))
 
 read-requires : tie.Need-read-requires
 read-requires c κs = search needs
@@ -75,8 +75,8 @@ part-lay-pairs-start c = search needs
 part-lay-pairs-end : tie.Need-part-lay-pairs-end
 part-lay-pairs-end c = omega (arith, plate (c .before .before .before .before .before .before) .long)
 
-wide-requires : tie.Need-wide-requires
-wide-requires c κs = search needs
+wide32-requires : tie.Need-wide32-requires
+wide32-requires c κs = search needs
 
 slice-relend-prefix-lay-pairs : tie.Need-slice-relend-prefix-lay-pairs
 slice-relend-prefix-lay-pairs c = (enough (c .before .before .before) (c .before .before .if1 .left)) .0
@@ -129,7 +129,7 @@ lay-spec =
     sub-lay-pairs
     part-lay-pairs-start
     part-lay-pairs-end
-    wide-requires
+    wide32-requires
     slice-relend-prefix-lay-pairs
     slice-aggregate-lay-pairs
     slice-relend-prefix-lay-pairs-2

@@ -10,14 +10,14 @@ use Rattle.plate.proofs.byte_at.Tie as tie
 returns : tie.Need-returns
 returns c = (sym (List·getD-eq-default (c .before .before .args .file .now) 0 (c .if1 .taken)), omega arith)
 
-shared-slice-read-wide : tie.Need-shared-slice-read-wide
-shared-slice-read-wide c = search needs
+shared-slice-read-wide8 : tie.Need-shared-slice-read-wide8
+shared-slice-read-wide8 c = search needs
 
-wide-requires : tie.Need-wide-requires
-wide-requires c κs = search needs
+wide8-requires : tie.Need-wide8-requires
+wide8-requires c κs = search needs
 
 returns-2 : tie.Need-returns-2
 returns-2 c = search needs
 
 pub byte-at-spec : {M : Type 1} → statement M
-byte-at-spec = tie.close (tie.spec returns shared-slice-read-wide wide-requires returns-2)
+byte-at-spec = tie.close (tie.spec returns shared-slice-read-wide8 wide8-requires returns-2)

@@ -2,7 +2,7 @@
 -- Assumes nothing.
 use mathlib.Core.Path.{sym, _∙_}
 use Rattle.plate.proofs.Stages.{piece-10, piece-11, piece-passed, passed-is}
-use Rattle.plate.proofs.Cutting.{lent-as}
+use Rattle.pieces.proofs.Cutting.{lent-as}
 use borrow.Author.Needs.{needs}
 use Rattle.plate.proofs.flood_tests.Statement.{statement}
 use Rattle.plate.proofs.flood_tests.Tie as tie

@@ -3,7 +3,7 @@
 use mathlib.Core.Path.{_∙_}
 use native.Mathlib.Omega.{arith}
 use Rattle.laws.proofs.Lists.{part-length}
-use Rattle.plate.proofs.Cutting.{whole-room, whole-tests}
+use Rattle.plate.proofs.Rooms.{whole-room, whole-tests}
 use borrow.Author.Needs.{needs}
 use Rattle.plate.proofs.piece_tests.Statement.{statement}
 use Rattle.plate.proofs.piece_tests.Tie as tie

@@ -1,6 +1,6 @@
 -- `plate::room_tests` meets its contract: the neighbours are found, and the tests are those of `flood_tests`.
 -- Assumes nothing.
-use Rattle.plate.proofs.Cutting.{room-asks, room-lent}
+use Rattle.plate.proofs.Rooms.{room-asks, room-lent}
 use Rattle.plate.proofs.room_tests.Statement.{statement}
 use Rattle.plate.proofs.room_tests.Tie as tie
 

@@ -5,7 +5,7 @@ use Prim.Native.Nat.{_-_}
 use native.Mathlib.Omega.{arith}
 use lib.ListN.{length}
 use Rattle.rules.specs.Lists.{at}
-use Rattle.reach.proofs.Seeking.{Searched, start, step, found, none}
+use Rattle.laws.proofs.Seeking.{Searched, start, step, found, none}
 use Rattle.reach.proofs.first_unmarked.Statement.{statement}
 use Rattle.reach.proofs.first_unmarked.Tie as tie
 

@@ -1,23 +1,24 @@
 -- `reach::neighbours` meets its contract. The loop goes from the last dart down. Its invariant: `first` has for each port the lowest dart from d on that leaves it,
 -- and `more` has for each dart from d on the next one at its port. So what `first` has at the port of the dart before d is what `more` has to get there. The measure is d.
 -- Assumes nothing.
-use mathlib.Core.Path.{_≡_, sym, ap, _∙_, subst}
+use mathlib.Core.Path.{_≡_, refl, sym, ap, _∙_, subst}
 use mathlib.Core.List.{List}
 use Prim.Native.Nat.{ℕ, _-_, _<_}
 use native.Mathlib.Omega.{arith}
 use borrow.Author.Needs.{needs}
 use lib.ListN.{length, replicate, length-replicate}
 use Rattle.rules.specs.Terms.{leaves}
+use Rattle.numbers.proofs.Filling.{fill-whole}
 use Rattle.reach.specs.Neighbours.{firstDarts}
 use Rattle.reach.proofs.Chaining.{Chained, start, step-as, first-end, more-end}
 use Rattle.reach.proofs.neighbours.Statement.{statement}
 use Rattle.reach.proofs.neighbours.Tie as tie
 
 abbrev Inv-loop : tie.InvT-loop
-Inv-loop ends first₀ more₀ d₀ first more d = Chained ends (length first₀) first more d
+Inv-loop ends first₀ more₀ v d₀ first more d = Chained ends (length first₀) first more d
 
 abbrev μ-loop : tie.MeasureT-loop
-μ-loop ends first₀ more₀ d₀ first more d = d
+μ-loop ends first₀ more₀ v d₀ first more d = d
 
 -- the ports that the darts leave, and the entry
 abbrev begin : tie.At-loop Inv-loop μ-loop → tie.Start Inv-loop μ-loop
@@ -28,7 +29,7 @@ Ends c = begin c .args .ends .now
 
 -- `fill` keeps the number of ports
 kept : (c : tie.At-loop Inv-loop μ-loop) → length (c .before .before .before .fill .last .0) ≡ length (begin c .args .first .now)
-kept c = ap length (c .before .before .before .fill .ensures) ∙ length-replicate (length (begin c .args .first .now)) (c .before .before .before .before .narrow .result)
+kept c = c .before .before .before .fill .kept .0
 
 inside : (c : tie.At-loop Inv-loop μ-loop) → 0 < c .loop .d → leaves (Ends c) (c .loop .d - 1) < length (c .before .before .before .fill .last .0)
 inside c h = omega (arith, begin c .pre .0 (c .loop .d - 1) (omega (arith, c .loop .inv .most)), kept c)
@@ -49,10 +50,12 @@ fill-requires c κs = search needs
 
 loop-holds : tie.Need-loop-holds Inv-loop μ-loop
 loop-holds c =
-    let n = length (c .before .before .before .before .before .before .before .before .args .first .now) in
+    let a = c .before .before .before .before .before .before .before .before in
+    let o = a .args .first .now in
     let f = c .before .before .fill .last .0 in
-    let e : f ≡ replicate n (length (c .before .before .before .before .before .before .before .before .args .ends .now)) = c .before .before .fill .ensures ∙ ap (replicate n) (c .before .before .before .narrow .ensures) in
-    start _ (length f) f _ (e ∙ ap (λ (k : ℕ). replicate k (length (c .before .before .before .before .before .before .before .before .args .ends .now))) (sym (ap length e ∙ length-replicate n _))) (omega arith)
+    let x = c .before .before .before .narrow .result in
+    let e : f ≡ replicate (length o) (length (a .args .ends .now)) = c .before .before .fill .ensures ∙ fill-whole o (length o) x refl ∙ ap (replicate (length o)) (c .before .before .before .narrow .ensures) in
+    start _ (length f) f _ (e ∙ ap (λ (k : ℕ). replicate k (length (a .args .ends .now))) (sym (ap length e ∙ length-replicate (length o) _))) (omega arith)
 
 sub-d : tie.Need-sub-d Inv-loop μ-loop
 sub-d c = omega arith

@@ -6,7 +6,7 @@ use native.Mathlib.Omega.{arith}
 use borrow.Author.Needs.{needs}
 use lib.ListN.{length}
 use Rattle.rules.specs.Refusals.{awayTurn}
-use Rattle.reach.proofs.Seeking.{Searched, start, step, found, none}
+use Rattle.laws.proofs.Seeking.{Searched, start, step, found, none}
 use Rattle.rings.proofs.Turns.{away-yes, away-no}
 use Rattle.rings.proofs.first_away.Statement.{statement}
 use Rattle.rings.proofs.first_away.Tie as tie

@@ -5,7 +5,7 @@ use Prim.Native.Nat.{_-_}
 use native.Mathlib.Omega.{arith}
 use lib.ListN.{length}
 use Rattle.rules.specs.Refusals.{brokenRing}
-use Rattle.reach.proofs.Seeking.{Searched, start, step, found, none}
+use Rattle.laws.proofs.Seeking.{Searched, start, step, found, none}
 use Rattle.rings.proofs.Turns.{broken-is}
 use Rattle.rings.proofs.first_broken.Statement.{statement}
 use Rattle.rings.proofs.first_broken.Tie as tie

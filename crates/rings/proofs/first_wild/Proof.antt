@@ -5,7 +5,7 @@ use native.Mathlib.Omega.{arith}
 use borrow.Author.Needs.{needs}
 use lib.ListN.{length}
 use Rattle.rules.specs.Refusals.{wildTurn}
-use Rattle.reach.proofs.Seeking.{Searched, start, step, found, none}
+use Rattle.laws.proofs.Seeking.{Searched, start, step, found, none}
 use Rattle.rings.proofs.Turns.{wild-yes, wild-no}
 use Rattle.rings.proofs.first_wild.Statement.{statement}
 use Rattle.rings.proofs.first_wild.Tie as tie

@@ -1,12 +1,10 @@
 -- `step::cross` meets its contract: the channels and the ports of the fragment are the flags that the path is found by (Crossing).
 -- Assumes nothing.
-use mathlib.Core.Path.{_≡_, sym, ap, _∙_}
-use mathlib.Core.Bool.{Bool}
+use mathlib.Core.Path.{ap, _∙_}
 use mathlib.Core.List.{List, _++_}
 use Prim.Native.Nat.{ℕ}
 use lib.ListN.{length, drop}
 use Rattle.fragment.specs.declared.Two.{Two}
-use Rattle.step.specs.Rooms.{Crossed}
 use Rattle.step.proofs.Crossing.{ask-two, ask-fragment, path-is, ask-path}
 use borrow.Author.Needs.{needs}
 use Rattle.step.proofs.cross.Statement.{statement}

@@ -8,7 +8,7 @@ use Rattle.step.proofs.enter.Statement.{statement}
 use Rattle.step.proofs.enter.Tie as tie
 use Rattle.step.proofs.enter.Reads as reads
 use Rattle.step.proofs.enter.Lts as lts
-use Rattle.step.proofs.narrow.Reads as narrow-reads
+use Rattle.numbers.proofs.narrow.Reads as narrow-reads
 
 narrow-requires : tie.Need-narrow-requires
 narrow-requires c κs = search needs

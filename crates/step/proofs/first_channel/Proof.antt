@@ -4,7 +4,7 @@ use Prim.Native.Nat.{_-_}
 use native.Mathlib.Omega.{arith}
 use lib.ListN.{length}
 use Rattle.rules.specs.Lists.{at}
-use Rattle.reach.proofs.Seeking.{Searched, start, step, found, none}
+use Rattle.laws.proofs.Seeking.{Searched, start, step, found, none}
 use Rattle.step.proofs.first_channel.Statement.{statement}
 use Rattle.step.proofs.first_channel.Tie as tie
 use Rattle.step.proofs.first_channel.Reads as reads

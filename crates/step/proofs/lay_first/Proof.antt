@@ -13,9 +13,10 @@ use Rattle.rules.specs.Terms.{leaves, enters}
 use Rattle.rules.specs.Laying.{cycle, firstChannel}
 use Rattle.way.specs.Marks.{pathOver}
 use Rattle.laws.proofs.Sets.{at-lt}
+use Rattle.laws.proofs.Trails.{second-end}
 use Rattle.step.proofs.Writing.{part-long, front-room}
 use Rattle.step.proofs.Telling.{first-in, cycle-short}
-use Rattle.step.proofs.Crossing.{end-second, end-first, round-is, ask-round}
+use Rattle.step.proofs.Crossing.{end-first, round-is, ask-round}
 use Rattle.step.proofs.Entering.{ask-begin, laid-cycle}
 use borrow.Author.Needs.{needs}
 use Rattle.step.proofs.lay_first.Statement.{statement}
@@ -24,9 +25,9 @@ use Rattle.step.proofs.lay_first.Reads as reads
 use Rattle.step.proofs.lay_first.Lts as lts
 use Rattle.step.proofs.all_but.Reads as all-but-reads
 use Rattle.step.proofs.first_channel.Reads as first-channel-reads
-use Rattle.step.proofs.free_all.Reads as free-all-reads
-use Rattle.step.proofs.narrow.Reads as narrow-reads
-use Rattle.step.proofs.wide.Reads as wide-reads
+use Rattle.numbers.proofs.mark_all.Reads as mark-all-reads
+use Rattle.numbers.proofs.narrow.Reads as narrow-reads
+use Rattle.numbers.proofs.wide.Reads as wide-reads
 use Rattle.split.proofs.begin.Reads as begin-reads
 use Rattle.way.proofs.path.Reads as path-reads
 
@@ -48,11 +49,11 @@ playing : (c : tie.After-first-channel) → T (at (start c .args .play .now) (c 
 playing c = subst (λ (k : ℕ). T (at (start c .args .play .now) k)) (sym (same c)) (first-in _ _ _ (start c .pre .0))
 
 -- before the path is found: every port is free, and the path goes from the channel's second end to its first
-all-free : (c : tie.After-path-arg4) → c .before .before .before .before .before .before .free-all .last .0 ≡ replicate (length (c .before .before .before .before .before .before .before .before .before .before .before .before .before .before .before .before .before .before .before .before .before .before .before .before .before .before .before .before .args .first .now)) true
-all-free c = c .before .before .before .before .before .before .free-all .ensures ∙ ap (λ (m : ℕ). replicate m true) (c .before .before .before .before .before .before .before .before .before .before .before .before .before .before .before .before .before .before .before .before .before .before .before .before .before .before .before .before .pre .1 .1 .1 .1 .1 .0 .1)
+all-free : (c : tie.After-path-arg4) → c .before .before .before .before .before .before .mark-all .last .0 ≡ replicate (length (c .before .before .before .before .before .before .before .before .before .before .before .before .before .before .before .before .before .before .before .before .before .before .before .before .before .before .before .before .args .first .now)) true
+all-free c = c .before .before .before .before .before .before .mark-all .ensures ∙ ap (λ (m : ℕ). replicate m true) (c .before .before .before .before .before .before .before .before .before .before .before .before .before .before .before .before .before .before .before .before .before .before .before .before .before .before .before .before .pre .1 .1 .1 .1 .1 .0 .1)
 
 second : (c : tie.After-path-arg4) → c .before .before .before .before .before .before .before .before .before .before .before .before .wide2 .result ≡ enters (c .before .before .before .before .before .before .before .before .before .before .before .before .before .before .before .before .before .before .before .before .before .before .before .before .before .before .before .before .args .ends .now) (2 * c .before .before .before .before .before .before .before .before .before .before .before .before .before .before .before .before .first-channel .result)
-second c = c .before .before .before .before .before .before .before .before .before .before .before .before .wide2 .ensures .0 ∙ end-second (c .before .before .before .before .before .before .before .before .before .before .before .before .before .before .before .before .before .before .before .before .before .before .before .before .before .before .before .before .args .ends .now) (c .before .before .before .before .before .before .before .before .before .before .before .before .before .before .before .before .first-channel .result)
+second c = c .before .before .before .before .before .before .before .before .before .before .before .before .wide2 .ensures .0 ∙ second-end (c .before .before .before .before .before .before .before .before .before .before .before .before .before .before .before .before .before .before .before .before .before .before .before .before .before .before .before .before .args .ends .now) (c .before .before .before .before .before .before .before .before .before .before .before .before .before .before .before .before .first-channel .result)
 
 firstly : (c : tie.After-path-arg4) → c .before .before .before .before .before .before .before .before .before .before .before .before .before .before .wide .result ≡ leaves (c .before .before .before .before .before .before .before .before .before .before .before .before .before .before .before .before .before .before .before .before .before .before .before .before .before .before .before .before .args .ends .now) (2 * c .before .before .before .before .before .before .before .before .before .before .before .before .before .before .before .before .first-channel .result)
 firstly c = c .before .before .before .before .before .before .before .before .before .before .before .before .before .before .wide .ensures .0 ∙ end-first (c .before .before .before .before .before .before .before .before .before .before .before .before .before .before .before .before .before .before .before .before .before .before .before .before .before .before .before .before .args .ends .now) (c .before .before .before .before .before .before .before .before .before .before .before .before .before .before .before .before .first-channel .result)
@@ -62,7 +63,7 @@ abbrev entry : tie.After-path → tie.Start
 entry c = c .before .before .before .before .before .before .before .before .before .before .before .before .before .before .before .before .before .before .before .before .before .before .before .before .before .before .before .before .before
 
 abbrev found : tie.After-path → List ℕ
-found c = pathOver (entry c .args .ends .now) (c .before .before .before .before .before .before .before .before .before .before .before .all-but .last .1 .1 .0) (c .before .before .before .before .before .before .before .free-all .last .0) (c .before .before .before .before .before .before .before .before .before .before .before .before .before .wide2 .result) (c .before .before .before .before .before .before .before .before .before .before .before .before .before .before .before .wide .result)
+found c = pathOver (entry c .args .ends .now) (c .before .before .before .before .before .before .before .before .before .before .before .all-but .last .1 .1 .0) (c .before .before .before .before .before .before .before .mark-all .last .0) (c .before .before .before .before .before .before .before .before .before .before .before .before .before .wide2 .result) (c .before .before .before .before .before .before .before .before .before .before .before .before .before .before .before .wide .result)
 
 cyclic : (c : tie.After-path) (d : ℕ) → d ≡ 2 * c .before .before .before .before .before .before .before .before .before .before .before .before .before .before .before .before .before .first-channel .result → d ∷ found c ≡ cycle (length (entry c .args .first .now)) (entry c .args .ends .now) (entry c .args .play .now) (firstChannel (length (entry c .args .first .now)) (entry c .args .ends .now) (entry c .args .play .now))
 cyclic c d e =
@@ -110,8 +111,8 @@ wide-requires-2 c κs = search needs
 all-but-requires : tie.Need-all-but-requires
 all-but-requires c κs = (c .before .before .before .before .before .before .before .before .before .before .before .before .before .before .before .before .before .pre .1 .1 .1 .1 .1 .0 .2, omega (arith, same (c .before .before .before .before .before), at-lt _ _ (first-in _ _ _ (c .before .before .before .before .before .before .before .before .before .before .before .before .before .before .before .before .before .pre .0))))
 
-free-all-requires : tie.Need-free-all-requires
-free-all-requires c κs = search needs
+mark-all-requires : tie.Need-mark-all-requires
+mark-all-requires c κs = search needs
 
 sub-path : tie.Need-sub-path
 sub-path c = search needs
@@ -193,7 +194,7 @@ lay-first-spec =
     shared-slice-read-wide-2
     wide-requires-2
     all-but-requires
-    free-all-requires
+    mark-all-requires
     sub-path
     part-path-start
     part-path-end

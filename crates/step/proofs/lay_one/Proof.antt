@@ -5,7 +5,6 @@ use Prim.Native.Nat.{ℕ, _+_, _-_, _<_, _≤_}
 use native.Mathlib.Omega.{arith}
 use lib.ListN.{length}
 use borrow.Rule.Slice.PartMut.{putMid, same-len-mid}
-use Rattle.step.specs.Rooms.{Crossed}
 use Rattle.step.proofs.Writing.{part-long}
 use Rattle.step.proofs.Telling.{place-room, chosen-passable, end-room, size-small}
 use Rattle.step.proofs.Entering.{ask-divide, laid-path}
@@ -16,7 +15,7 @@ use Rattle.step.proofs.lay_one.Reads as reads
 use Rattle.step.proofs.lay_one.Lts as lts
 use Rattle.step.proofs.cross.Reads as cross-reads
 use Rattle.step.proofs.enter.Reads as enter-reads
-use Rattle.step.proofs.narrow.Reads as narrow-reads
+use Rattle.numbers.proofs.narrow.Reads as narrow-reads
 use Rattle.split.proofs.divide.Reads as divide-reads
 
 -- the function's entry

@@ -15,11 +15,11 @@ plate : (c : tie.After-got) → Known (c .before .before .before .before .before
 plate c = known _ _ (c .before .before .read .ensures) _ (c .got .given .1)
 
 -- the refusal
-refusal : (c : tie.After-wide2) → readPlate (c .before .before .before .before .before .before .before .before .before .before .args .file .now) ≡ refused (c .before .wide .result) (c .wide2 .result)
+refusal : (c : tie.After-wide322) → readPlate (c .before .before .before .before .before .before .before .before .before .before .args .file .now) ≡ refused (c .before .wide32 .result) (c .wide322 .result)
 refusal c =
     unread _ _ (c .before .before .before .before .before .before .read .ensures) _ (c .before .before .before .before .got2 .given .1)
-    ∙ ap (λ (n : ℕ). refused n (c .before .before .before .before .got2 .given .0 .0 .place)) (sym (c .before .wide .ensures))
-    ∙ ap (refused (c .before .wide .result)) (sym (c .wide2 .ensures))
+    ∙ ap (λ (n : ℕ). refused n (c .before .before .before .before .got2 .given .0 .0 .place)) (sym (c .before .wide32 .ensures))
+    ∙ ap (refused (c .before .wide32 .result)) (sym (c .wide322 .ensures))
 
 returns : tie.Need-returns
 returns c = call-short (c .before .before .before .args .file .now) (c .before .before .before .args .out .now) (omega (arith, c .if1 .taken))
@@ -51,11 +51,11 @@ list-pairs-requires c κs = (filed-of _ _ (plate (c .before .before .before .bef
 enum-known-got-2 : tie.Need-enum-known-got-2
 enum-known-got-2 c = search needs
 
-wide-requires : tie.Need-wide-requires
-wide-requires c κs = search needs
+wide32-requires : tie.Need-wide32-requires
+wide32-requires c κs = search needs
 
-wide-requires-2 : tie.Need-wide-requires-2
-wide-requires-2 c κs = search needs
+wide32-requires-2 : tie.Need-wide32-requires-2
+wide32-requires-2 c κs = search needs
 
 refused-line-requires : tie.Need-refused-line-requires
 refused-line-requires c κs = ask-refused _ _ _ (refusal c) _ (c .before .before .before .before .before .before .before .if1 .left)
@@ -86,8 +86,8 @@ listing-spec =
     part-list-pairs-end
     list-pairs-requires
     enum-known-got-2
-    wide-requires
-    wide-requires-2
+    wide32-requires
+    wide32-requires-2
     refused-line-requires
     same-length
     returns-2

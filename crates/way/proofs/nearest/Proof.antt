@@ -8,8 +8,9 @@ use lib.ListN.{length}
 use Rattle.rules.specs.Ways.{inPlay}
 use Rattle.reach.specs.Neighbours.{moreDart}
 use Rattle.reach.proofs.Chains.{more-up}
+use Rattle.reach.proofs.Spreading.{first-long, first-read, more-long, more-read}
 use Rattle.way.specs.Marks.{within}
-use Rattle.way.proofs.Choosing.{Choosing, start, step, end, first-long, more-long, first-is, more-is}
+use Rattle.way.proofs.Choosing.{Choosing, start, step, end}
 use Rattle.way.proofs.nearest.Statement.{statement}
 use Rattle.way.proofs.nearest.Tie as tie
 
@@ -21,7 +22,7 @@ abbrev μ-loop : tie.MeasureT-loop
 
 -- the dart that is read is the next of p
 after : (c : tie.After-wide2 Inv-loop μ-loop) → c .wide2 .result ≡ moreDart (c .before .before .before .before .before .before .before .before .before .before .before .before .args .ends .now) (c .before .before .before .before .loop .d)
-after c = c .wide2 .ensures .0 ∙ more-is _ _ _ _ (c .before .before .before .before .before .before .before .before .before .before .before .before .pre .1 .0) (c .before .before .before .before .loop .d) (omega arith)
+after c = c .wide2 .ensures .0 ∙ more-read _ _ _ _ (c .before .before .before .before .before .before .before .before .before .before .before .before .pre .1 .0) (c .before .before .before .before .loop .d) (omega arith)
 
 mul-wide : tie.Need-mul-wide Inv-loop μ-loop
 mul-wide c = omega arith
@@ -33,7 +34,7 @@ wide-requires : tie.Need-wide-requires Inv-loop μ-loop
 wide-requires c κs = search needs
 
 loop-holds : tie.Need-loop-holds Inv-loop μ-loop
-loop-holds c = start _ _ _ _ _ (c .wide .ensures .0 ∙ first-is _ _ _ _ (c .before .before .before .before .before .before .before .pre .1 .0) _ (c .before .before .before .before .before .before .before .pre .1 .1))
+loop-holds c = start _ _ _ _ _ (c .wide .ensures .0 ∙ first-read _ _ _ _ (c .before .before .before .before .before .before .before .pre .1 .0) _ (c .before .before .before .before .before .before .before .pre .1 .1))
 
 closer-requires : tie.Need-closer-requires Inv-loop μ-loop
 closer-requires c κs = (c .before .before .before .before .before .before .before .before .before .pre .0, (omega arith, c .before .loop .inv .best))

@@ -46,6 +46,7 @@ pub fn lay_out(
 {
     let v = first.len();
     let e = play.len();
+    let darts = ends.len();
     let mut laid = Plate::no_marks();
     let mut marks = Plate::no_marks();
     let mut queue = Plate::no_ports();
@@ -53,6 +54,7 @@ pub fn lay_out(
     let mut contacts = Plate::no_ports();
     let mut inside = Plate::no_marks();
     let mut own = Plate::all_channels();
+    let mut bars = Plate::no_ends();
     rounds::lay_out(
         ends,
         play,
@@ -70,5 +72,6 @@ pub fn lay_out(
         &mut inside[..v],
         &mut own[..e],
         story,
+        &mut bars[..darts],
     )
 }

@@ -7,6 +7,7 @@ pub mod Collecting
 pub mod Contacting
 pub mod Choosing
 pub mod Weighing
+pub mod Barring
 pub mod Judging
 pub mod Owning
 pub mod Telling

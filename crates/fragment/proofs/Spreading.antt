@@ -1,5 +1,5 @@
 -- The fragment of channel k spreads from its seed port: its ports are those that channels in play link to that port through unlaid ports, and there are none where both ends of k are laid.
--- same-flag, same-set: two tests, two sets that hold of the same. seed-only: the seed is the seed port alone. seed-unlaid: that port is unlaid. seed-first, seed-second, seed-neither, seed-cases: by the ends of channel k; read-..: the same, as the code reads them.
+-- same-set: two sets that hold of the same. seed-only: the seed is the seed port alone. seed-unlaid: that port is unlaid. seed-first, seed-second, seed-neither, seed-cases: by the ends of channel k; read-..: the same, as the code reads them.
 -- inside-iff, inside-none: what the fragment's ports are. inside-step, inside-back: they are closed. same-reach: ports that are marked already do not change what the spread reaches.
 -- Assumes nothing.
 use mathlib.Core.Path.{_≡_, refl, sym, _∙_, subst}

@@ -1,22 +1,94 @@
 -- The weight of a fragment, as two searches tell it: for the first land that visits every contact, and for the first behind it.
+--   Misses ls i      land i of ls does not visit every contact
 --   fits             the admissible lands
+-- fit-since: the lands that a search passes do not fit. fit-past: a search may begin behind lands that do not fit. first-found, next-most, second-found, passed-again: the two searches, begun behind lands that are passed.
 -- first-most: the first search ends by the last land. weigh-none, weigh-one, weigh-more: the three answers. contacts-weigh: the weight of the contacts is the fragment's.
 -- Assumes nothing.
-use mathlib.Core.Path.{_≡_, refl, sym, ap, _∙_}
-use mathlib.Core.Logic.{_≢_}
-use mathlib.Core.Bool.{Bool}
-use mathlib.Core.List.{List}
-use Prim.Native.Nat.{ℕ, zero, suc, _+_, _≤_}
+use mathlib.Core.Path.{_≡_, refl, sym, ap, _∙_, subst}
+use mathlib.Core.Logic.{_≢_, _⊎_, ⊎-elim}
+use mathlib.Core.Bool.{Bool, true, false, cond}
+use mathlib.Core.List.{List, [], _∷_}
+use Prim.Native.Nat.{ℕ, zero, suc, _+_, _-_, _<_, _≤_}
 use native.Mathlib.Nat.{not-suc-le-zero}
 use native.Mathlib.Omega.{arith}
-use lib.ListN.{length, getD, take, drop}
+use lib.ListN.{length, getD, take, drop, length-drop}
+use lib.Seq.{getD-drop, drop-drop}
+use Rattle.rules.specs.Lists.{all}
+use Rattle.rules.specs.Terms.{visits}
 use Rattle.rules.specs.Laying.{admissible, choiceOf}
 use Rattle.land.specs.Walks.{firstFit}
 use Rattle.land.proofs.Laws.{fit-le, fit-some, told-none, told-first, told-one, told-more}
 use Rattle.fragment.specs.declared.Weight.{Weight}
 use Rattle.fragment.specs.Fragments.{Contacts}
 use Rattle.fragment.specs.Rounds.{few, weighed, Weighs}
+use Rattle.fragment.specs.Bars.{Passed}
 use Rattle.fragment.proofs.Turning.{same-default}
+
+-- ---- where a search begins
+
+module _ (ends cs : List ℕ) where
+  abbrev Misses : List (List ℕ) → ℕ → Type 0
+  Misses ls i = all (visits ends (getD ls i [])) cs ≡ false
+
+  fit-before : (ls : List (List ℕ)) (i : ℕ) → i < firstFit ends cs ls → Misses ls i
+  unfolding firstFit
+  fit-before [] i h = absurd (not-suc-le-zero h)
+  fit-before (l ∷ ls) zero h = go (all (visits ends l) cs) h
+    where
+      go : (b : Bool) → 0 < cond b zero (suc (firstFit ends cs ls)) → b ≡ false
+      go true k = absurd (not-suc-le-zero k)
+      go false k = refl
+  fit-before (l ∷ ls) (suc i) h = fit-before ls i (go (all (visits ends l) cs) h)
+    where
+      go : (b : Bool) → suc i < cond b zero (suc (firstFit ends cs ls)) → i < firstFit ends cs ls
+      go true k = absurd (not-suc-le-zero k)
+      go false k = omega arith
+
+  fit-skip : (a : ℕ) (ls : List (List ℕ)) → a ≤ length ls → ((i : ℕ) → i < a → Misses ls i) → firstFit ends cs ls ≡ a + firstFit ends cs (drop a ls)
+  unfolding firstFit
+  fit-skip zero ls h p = omega arith
+  fit-skip (suc a) [] h p = absurd (not-suc-le-zero h)
+  fit-skip (suc a) (l ∷ ls) h p =
+      let rest = fit-skip a ls (omega arith) (λ i k. p (suc i) (omega arith)) in
+      ap (λ (b : Bool). cond b zero (suc (firstFit ends cs ls))) (p 0 (omega arith)) ∙ omega (arith, rest)
+
+  fit-since : (s : ℕ) (ls : List (List ℕ)) (i : ℕ) → s ≤ i → i < s + firstFit ends cs (drop s ls) → Misses ls i
+  fit-since s ls i h k =
+      let e : s + (i - s) ≡ i = omega arith in
+      subst (λ (l : List ℕ). all (visits ends l) cs ≡ false) (getD-drop s ls (i - s) [] ∙ ap (λ (j : ℕ). getD ls j []) e) (fit-before (drop s ls) (i - s) (omega arith))
+
+  fit-past : (s e : ℕ) (ls : List (List ℕ)) → s ≤ e → e ≤ length ls → ((i : ℕ) → s ≤ i → i < e → Misses ls i)
+      → s + firstFit ends cs (drop s ls) ≡ e + firstFit ends cs (drop e ls)
+  fit-past s e ls h m p =
+      let skip = fit-skip (e - s) (drop s ls) (omega (arith, length-drop s ls)) (λ i k. subst (λ (l : List ℕ). all (visits ends l) cs ≡ false) (sym (getD-drop s ls i [])) (p (s + i) (omega arith) (omega arith))) in
+      let to : s + (e - s) ≡ e = omega arith in
+      omega (arith, skip, ap (firstFit ends cs) (drop-drop (e - s) s ls ∙ ap (λ (j : ℕ). drop j ls) to))
+
+-- of n lands, x and y tell which are passed; a is the first found from x on
+module _ (ends cs : List ℕ) (ls : List (List ℕ)) (n x y : ℕ) (size : length ls ≡ n) (p : Passed ends cs ls x y) (a : ℕ) (f : a ≡ x + firstFit ends cs (drop x ls)) where
+  pub first-found : a ≡ 0 + firstFit ends cs (drop 0 ls)
+  first-found = f ∙ sym (fit-past ends cs 0 x ls (omega arith) (p .first) (λ i h k. p .low i k))
+
+  -- b is the first found from e on, the later of y and the land behind a
+  module _ (h : a ≢ n) (e b : ℕ) (u : (y ≤ e) × (a + 1 ≤ e) × ((e ≡ y) ⊎ (e ≡ a + 1))) (g : b ≡ e + firstFit ends cs (drop e ls)) where
+    pub next-most : e ≤ n
+    next-most = ⊎-elim (λ q. omega (arith, q, p .second)) (λ q. omega (arith, q, first-found, fit-le ends cs ls)) (u .2)
+
+    pub second-found : b ≡ a + 1 + firstFit ends cs (drop (a + 1) ls)
+    second-found = g ∙ sym (fit-past ends cs (a + 1) e ls (u .1) (omega (arith, next-most)) (λ i l m. ⊎-elim (λ q. p .between i (omega (arith, f)) (omega (arith, q))) (λ q. absurd (not-suc-le-zero {n = 0} (omega (arith, q)))) (u .2)))
+
+    second-most : b ≤ n
+    second-most = omega (arith, g, fit-le ends cs (drop e ls), length-drop e ls, next-most)
+
+    pub passed-again : Passed ends cs ls a b
+    passed-again = record {
+      first = omega (arith, first-found, fit-le ends cs ls);
+      second = omega (arith, second-most);
+      low = λ i k. fit-since ends cs 0 ls i (omega arith) (omega (arith, first-found));
+      between = λ i k m. fit-since ends cs (a + 1) ls i (omega arith) (omega (arith, second-found));
+    }
+
+-- ---- the weight
 
 few-more : (n : ℕ) → 2 ≤ n → few n ≡ 2
 unfolding few

@@ -1,2 +1,3 @@
 pub mod Fragments
 pub mod Rounds
+pub mod Bars

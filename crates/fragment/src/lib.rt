@@ -1,5 +1,6 @@
 // The fragments of a laying, and what the next round says.
 ghost use mathlib.Core.Path.{_≡_};
+ghost use mathlib.Core.Logic.{_⊎_};
 ghost use mathlib.Core.Bool.{true, false, not, _&&_};
 ghost use mathlib.Core.List.{List, map};
 ghost use Prim.Native.Nat.{ℕ, _+_, _*_, _<_, _≤_};
@@ -12,6 +13,7 @@ ghost use Rattle.reach.specs.Floods.{Sized, Tables};
 ghost use Rattle.land.specs.Walks.{lands, Walkable};
 ghost use Rattle.fragment.specs.Fragments.{Wired, over, seedPort, touch, touchAll, touchFrom, rising, Marked, Shut, Lent, Spread, Contacts};
 ghost use Rattle.fragment.specs.Rounds.{twoOf, weighed, preferred, laidBy, stateOf, verdictOf, Next, Weighs};
+ghost use Rattle.fragment.specs.Bars.{Bars, Passed, Moved};
 use numbers::mark_all;
 use numbers::narrow;
 use numbers::reverse;
@@ -305,7 +307,17 @@ fn contacts_of(
     collect(touched, contacts)
 }
 
-// How many lands are admissible for contacts, 2 for more, and the lowest of them; `count` where none is.
+// The later of two lands.
+fn later(a: usize, b: usize) -> usize
+    ensures { λ r. ⌜ (a ≤ r) × (b ≤ r) × ((r ≡ a) ⊎ (r ≡ b)) ⌝ }
+{
+    if a < b {
+        return b;
+    }
+    a
+}
+
+// How many lands are admissible for contacts, 2 for more, and the lowest of them; `count` where none is. The searches begin where the numbers of channel k tell, which are told anew.
 fn weigh(
     ends: &[u16],
     turns: &[u16],
@@ -313,19 +325,30 @@ fn weigh(
     lens: &[u16],
     count: usize,
     contacts: &[u16],
+    bars: &mut [u16],
+    k: usize,
 ) -> Weight
     requires walkable { ⌜ Walkable (now turns) (now firsts) (now lens) count ⌝ }
     requires darts { ⌜ length (now turns) ≡ length (now ends) ⌝ }
-    ensures { λ r. ⌜ r ≡ weighed count (admissible (now (ends .entry)) (now (contacts .entry)) 0 (lands (now (turns .entry)) (now (firsts .entry)) (now (lens .entry)) count)) ⌝ }
+    requires few { ⌜ count < 65536 ⌝ }
+    requires places { ⌜ 2 * k + 1 < length (now bars) ⌝ }
+    requires passed { ⌜ Passed (now ends) (now contacts) (lands (now turns) (now firsts) (now lens) count) (getD (now bars) (2 * k) 0) (getD (now bars) (2 * k + 1) 0) ⌝ }
+    ensures weight { λ r. ⌜ r ≡ weighed count (admissible (now (ends .entry)) (now (contacts .entry)) 0 (lands (now (turns .entry)) (now (firsts .entry)) (now (lens .entry)) count)) ⌝ }
+    ensures moved { λ _. ⌜ Moved (now (ends .entry)) (now (contacts .entry)) (lands (now (turns .entry)) (now (firsts .entry)) (now (lens .entry)) count) k (now (bars .entry)) (now (bars .exit)) ⌝ }
 {
-    let lowest = land::admissible(ends, turns, firsts, lens, count, 0, contacts);
+    let d = 2 * k;
+    let low = wide(bars[d]);
+    let lowest = land::admissible(ends, turns, firsts, lens, count, low, contacts);
     if lowest == count {
         return Weight {
             fits: 0,
             land: count,
         };
     }
-    let second = land::admissible(ends, turns, firsts, lens, count, lowest + 1, contacts);
+    let next = later(wide(bars[d + 1]), lowest + 1);
+    let second = land::admissible(ends, turns, firsts, lens, count, next, contacts);
+    bars[d] = narrow(lowest);
+    bars[d + 1] = narrow(second);
     if second == count {
         return Weight {
             fits: 1,
@@ -391,6 +414,7 @@ fn weigh_at(
     touched: &mut [bool],
     contacts: &mut [u16],
     k: usize,
+    bars: &mut [u16],
 ) -> Weight
     requires wired { ⌜ Wired (length (now laid)) (now ends) (now play) (now first) (now more) ⌝ }
     requires walkable { ⌜ Walkable (now turns) (now firsts) (now lens) count ⌝ }
@@ -399,7 +423,11 @@ fn weigh_at(
     requires shut { ⌜ Shut (now ends) (now play) (now laid) (now marks) ⌝ }
     requires channel { ⌜ at (now play) k ≡ true ⌝ }
     requires unmarked { ⌜ at (now marks) (seedPort (length (now laid)) (now ends) (now laid) k) ≡ false ⌝ }
-    ensures { λ r. ⌜ Weighs (length (now (laid .entry))) (now (ends .entry)) (now (play .entry)) (now (laid .entry)) (lands (now (turns .entry)) (now (firsts .entry)) (now (lens .entry)) count) count k (now (marks .entry)) (now (marks .exit)) r ⌝ }
+    requires laid { ⌜ now laid ≡ laidBy (length (now laid)) (now ends) (now turns) ⌝ }
+    requires few { ⌜ count < 65536 ⌝ }
+    requires bars { ⌜ Bars (length (now laid)) (now ends) (now play) (now turns) (lands (now turns) (now firsts) (now lens) count) (now bars) ⌝ }
+    ensures weighs { λ r. ⌜ Weighs (length (now (laid .entry))) (now (ends .entry)) (now (play .entry)) (now (laid .entry)) (lands (now (turns .entry)) (now (firsts .entry)) (now (lens .entry)) count) count k (now (marks .entry)) (now (marks .exit)) r ⌝ }
+    ensures bars { λ _. ⌜ Bars (length (now (laid .entry))) (now (ends .entry)) (now (play .entry)) (now (turns .entry)) (lands (now (turns .entry)) (now (firsts .entry)) (now (lens .entry)) count) (now (bars .exit)) ⌝ }
 {
     let n = contacts_of(
         ends,
@@ -413,7 +441,7 @@ fn weigh_at(
         contacts,
         k,
     );
-    weigh(ends, turns, firsts, lens, count, &contacts[..n])
+    weigh(ends, turns, firsts, lens, count, &contacts[..n], bars, k)
 }
 
 // Of what is held and of fragment k, which comes later and has the weight w, the one to hold: a fragment with exactly one land goes before.
@@ -452,6 +480,7 @@ fn decide(
     queue: &mut [u16],
     touched: &mut [bool],
     contacts: &mut [u16],
+    bars: &mut [u16],
 ) -> Verdict
     requires wired { ⌜ Wired (length (now laid)) (now ends) (now play) (now first) (now more) ⌝ }
     requires walkable { ⌜ Walkable (now turns) (now firsts) (now lens) count ⌝ }
@@ -460,7 +489,10 @@ fn decide(
     requires laid { ⌜ now laid ≡ laidBy (length (now laid)) (now ends) (now turns) ⌝ }
     requires marks { ⌜ now marks ≡ now laid ⌝ }
     requires unlaid { ⌜ allLaid (length (now laid)) (now ends) (now play) (now turns) ≡ false ⌝ }
-    ensures { λ r. ⌜ r ≡ verdictOf (judge (length (now (laid .entry))) (now (ends .entry)) (now (play .entry)) (stateOf (now (turns .entry)) (lands (now (turns .entry)) (now (firsts .entry)) (now (lens .entry)) count))) ⌝ }
+    requires few { ⌜ count < 65536 ⌝ }
+    requires bars { ⌜ Bars (length (now laid)) (now ends) (now play) (now turns) (lands (now turns) (now firsts) (now lens) count) (now bars) ⌝ }
+    ensures verdict { λ r. ⌜ r ≡ verdictOf (judge (length (now (laid .entry))) (now (ends .entry)) (now (play .entry)) (stateOf (now (turns .entry)) (lands (now (turns .entry)) (now (firsts .entry)) (now (lens .entry)) count))) ⌝ }
+    ensures bars { λ _. ⌜ Bars (length (now (laid .entry))) (now (ends .entry)) (now (play .entry)) (now (turns .entry)) (lands (now (turns .entry)) (now (firsts .entry)) (now (lens .entry)) count) (now (bars .exit)) ⌝ }
 {
     let mut held = Held {
         fits: 0,
@@ -484,6 +516,7 @@ fn decide(
             touched,
             contacts,
             k,
+            bars,
         );
         if w.fits == 0 {
             return Verdict::Stuck(k);
@@ -512,13 +545,17 @@ pub fn judge(
     queue: &mut [u16],
     touched: &mut [bool],
     contacts: &mut [u16],
+    bars: &mut [u16],
 ) -> Verdict
     requires wired { ⌜ Wired (length (now laid)) (now ends) (now play) (now first) (now more) ⌝ }
     requires walkable { ⌜ Walkable (now turns) (now firsts) (now lens) count ⌝ }
     requires darts { ⌜ length (now turns) ≡ length (now ends) ⌝ }
     requires lent { ⌜ Lent (length (now laid)) (now marks) (now queue) (now touched) (now contacts) ⌝ }
+    requires few { ⌜ count < 65536 ⌝ }
+    requires bars { ⌜ Bars (length (now laid)) (now ends) (now play) (now turns) (lands (now turns) (now firsts) (now lens) count) (now bars) ⌝ }
     ensures verdict { λ r. ⌜ r ≡ verdictOf (judge (length (now (laid .entry))) (now (ends .entry)) (now (play .entry)) (stateOf (now (turns .entry)) (lands (now (turns .entry)) (now (firsts .entry)) (now (lens .entry)) count))) ⌝ }
     ensures laid { λ _. ⌜ now (laid .exit) ≡ laidBy (length (now (laid .entry))) (now (ends .entry)) (now (turns .entry)) ⌝ }
+    ensures bars { λ _. ⌜ Bars (length (now (laid .entry))) (now (ends .entry)) (now (play .entry)) (now (turns .entry)) (lands (now (turns .entry)) (now (firsts .entry)) (now (lens .entry)) count) (now (bars .exit)) ⌝ }
 {
     laid_ports(ends, turns, laid);
     if all_laid(turns, play) {
@@ -539,6 +576,7 @@ pub fn judge(
         queue,
         touched,
         contacts,
+        bars,
     )
 }
 

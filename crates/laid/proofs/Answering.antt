@@ -7,7 +7,7 @@ use Rattle.rules.specs.Refusals.{given}
 use Rattle.rounds.specs.declared.Word.{Word}
 use Rattle.rounds.specs.declared.Word.the-variants.{Flat as WordFlat, Stuck as WordStuck, Partial as WordPartial}
 use Rattle.rounds.specs.declared.End.{End}
-use Rattle.rounds.specs.Stories.{wordIn, nameIn, saidBy}
+use Rattle.rounds.specs.Words.{wordIn, nameIn, saidBy}
 use Rattle.laid.specs.declared.Laid.the-variants.{Flat, Stuck, Partial}
 use Rattle.laid.specs.Answers.{laidAnswer}
 

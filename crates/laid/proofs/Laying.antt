@@ -18,7 +18,7 @@ use Rattle.land.specs.Walks.{lands, Walkable}
 use Rattle.split.proofs.Laws.{holds-lands, holds-walkable}
 use Rattle.step.proofs.Telling.{lands-few}
 use Rattle.rounds.specs.declared.End.{End}
-use Rattle.rounds.specs.Stories.{saidBy}
+use Rattle.rounds.specs.Words.{saidBy}
 use Rattle.rounds.specs.Rooms.{Left}
 use Rattle.laid.specs.declared.Laid.{Laid}
 use Rattle.laid.specs.Answers.{laidAnswer}

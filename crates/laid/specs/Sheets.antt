@@ -12,7 +12,7 @@ use Rattle.rules.specs.Terms.{missing}
 use Rattle.rules.specs.Files.{limits1}
 use Rattle.rules.specs.Refusals.{given}
 use Rattle.rules.specs.Laying.{laying}
-use Rattle.rounds.specs.Stories.{saidOf}
+use Rattle.rounds.specs.Words.{saidOf}
 use Rattle.step.specs.Rooms.{Plan}
 use Rattle.laid.specs.declared.Laid.{Laid}
 use Rattle.laid.specs.Answers.{laidAnswer}

@@ -8,7 +8,7 @@ ghost use Rattle.rules.specs.Lists.{concat};
 ghost use Rattle.rules.specs.Terms.{missing};
 ghost use Rattle.rules.specs.Refusals.{given};
 ghost use Rattle.land.specs.Walks.{lands as walked, Walkable};
-ghost use Rattle.rounds.specs.Stories.{saidBy};
+ghost use Rattle.rounds.specs.Words.{saidBy};
 ghost use Rattle.laid.specs.Answers.{laidAnswer};
 ghost use Rattle.laid.specs.Sheets.{Fit, Sheet};
 use numbers::fill;

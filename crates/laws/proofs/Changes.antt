@@ -10,11 +10,10 @@ use mathlib.Core.List.{List, [], _∷_, _++_, map}
 use Prim.Native.Nat.{ℕ, _≤_, _<_, _+_}
 use native.Mathlib.Omega.{arith}
 use lib.Dec.{T}
-use lib.ListN.{length, getD, set, length-set, List·getD-append}
-use lib.Seq.{getD-set-same, getD-set-other}
+use lib.ListN.{length, getD, set, length-set}
 use Rattle.rules.specs.Lists.{at, keep}
 use Rattle.rules.specs.Terms.{leaves, enters, reverse, missing, laid, listed, dartsAt, ring}
-use Rattle.rules.specs.Laying.{State, Choice, back, first, last, splitLands, lay, laying}
+use Rattle.rules.specs.Laying.{State, Choice, back, first, last, lay, laying}
 use Rattle.laws.proofs.Counts.{flag, flag-T, T-flag, flag-le, count, Distinct}
 use Rattle.laws.proofs.Lists.{All}
 use Rattle.laws.proofs.Split.{count-split, length-split}
@@ -25,7 +24,7 @@ use Rattle.laws.proofs.Choices.{Open, Sensible}
 use Rattle.laws.proofs.Reaches.{Wide}
 use Rattle.laws.proofs.Rounds.{Layable, kept-lay}
 use Rattle.laws.proofs.FirstCycle.{kept-laying}
-use Rattle.laws.proofs.Steps.{Parted, parted-same, parted-lay}
+use Rattle.laws.proofs.Steps.{Parted, parted-same, parted-lands, parted-kept, parted-others, parted-lay}
 use Rattle.laws.proofs.Turns.{closed-turned, closed-laying, turn-laid}
 use Rattle.laws.proofs.Sweeps.{sweep-ring, RingAt, ring-in, ring-length, ring-from, woven, sweep-woven, keep-woven, Follows}
 use Rattle.laws.proofs.NewTurns.{back-first, turns-where, turns-follow, turn-afterX, turn-afterY, old-stays}
@@ -115,26 +114,11 @@ module _ (ps : List ℕ) (s z : State) (K : Sound (s .turns) (s .lands)) (L : So
 
   -- ---- the lands
 
-  lands-as : z .lands ≡ set (s .lands) (D .land) (listed (way ++ D .b ∷ D .n)) ++ (listed (back way ++ D .a ∷ D .m) ∷ [])
-  unfolding splitLands
-  lands-as = D .lands
-
-  land-as : (j : ℕ) → j < length (s .lands) → getD (z .lands) j [] ≡ getD (set (s .lands) (D .land) (listed (way ++ D .b ∷ D .n))) j []
-  land-as j h =
-      ap (λ (k : List (List ℕ)). getD k j []) lands-as
-      ∙ List·getD-append (set (s .lands) (D .land) (listed (way ++ D .b ∷ D .n))) (listed (back way ++ D .a ∷ D .m) ∷ []) [] j (omega (arith, h, length-set (s .lands) (D .land) (listed (way ++ D .b ∷ D .n))))
-
-  land-kept : getD (z .lands) (D .land) [] ≡ listed (way ++ D .b ∷ D .n)
-  land-kept = land-as (D .land) (D .below) ∙ getD-set-same (s .lands) (D .land) (listed (way ++ D .b ∷ D .n)) [] (D .below)
-
   land-made : getD (z .lands) (length (s .lands)) [] ≡ listed (back way ++ D .a ∷ D .m)
   land-made =
-      ap (λ (k : List (List ℕ)). getD k (length (s .lands)) []) lands-as
+      ap (λ (k : List (List ℕ)). getD k (length (s .lands)) []) (parted-lands ps s z D)
       ∙ ap (λ (k : ℕ). getD (set (s .lands) (D .land) (listed (way ++ D .b ∷ D .n)) ++ (listed (back way ++ D .a ∷ D .m) ∷ [])) k []) (sym (length-set (s .lands) (D .land) (listed (way ++ D .b ∷ D .n))))
       ∙ getD-snoc (set (s .lands) (D .land) (listed (way ++ D .b ∷ D .n))) (listed (back way ++ D .a ∷ D .m))
-
-  land-others : (j : ℕ) → j < length (s .lands) → j ≢ D .land → getD (z .lands) j [] ≡ getD (s .lands) j []
-  land-others j h n = land-as j h ∙ getD-set-other (s .lands) (D .land) j (listed (way ++ D .b ∷ D .n)) [] n
 
   pub changed-parted : Ringed ps t → Changed ps s z
   unfolding first
@@ -158,11 +142,11 @@ module _ (ps : List ℕ) (s z : State) (K : Sound (s .turns) (s .lands)) (L : So
         wayA = rw (← D .fromX, ← D .fromY) (both .0);
         wayB = rw (← D .fromX, ← D .fromY) (both .1);
         stretches = D .turned;
-        lands = lands-as;
-        kept = land-kept;
+        lands = parted-lands ps s z D;
+        kept = parted-kept ps s z D;
         made = land-made;
-        others = land-others;
-        darts = λ w. omega (arith, ap (count w) land-kept, ap (count w) land-made, count-split w A B way, parted-same ps s z D w);
+        others = parted-others ps s z D;
+        darts = λ w. omega (arith, ap (count w) (parted-kept ps s z D), ap (count w) land-made, count-split w A B way, parted-same ps s z D w);
         each = λ w. omega (arith, count-at w (s .lands) (D .land), K .cover w, D .after w, flag-le (laid u w));
         name = D .paths .0;
         paths = D .paths .1;

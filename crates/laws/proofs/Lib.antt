@@ -24,6 +24,7 @@ pub mod InOrder
 pub mod Counting
 pub mod Passing
 pub mod Steps
+pub mod Keeping
 pub mod Turns
 pub mod Visits
 pub mod Sweeps

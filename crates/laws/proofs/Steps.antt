@@ -2,7 +2,7 @@
 --   Cycled ps s         the state s is a first cycle: its darts d ∷ q, a way from a port back to it that comes to no port twice, laid both ways
 --   Parted ps s z       the state z is s with one path more: the land's number; x and y; the path d ∷ q; A is a ∷ m and B is b ∷ n; what they are, what is laid, and what becomes of turns, lands and paths
 --   lp, fr, cs, i, x, y, l, r      of the path that is laid, as in Rounds: the laid ports, the fragment, its contacts, the land's number, the two smallest contacts, the land, the land from x on
--- cycled-start: so is the first state. parted-lay: so is the state after a path for a sensible choice with an admissible land. parted-same, parted-old: A and B have the land's darts, which are laid. all-parted: what holds of every land afterwards. steps-keep, steps-laying: the induction.
+-- cycled-start: so is the first state. parted-lay: so is the state after a path for a sensible choice with an admissible land. parted-same, parted-old: A and B have the land's darts, which are laid. parted-lands, parted-kept, parted-others: the lands afterwards. all-parted: what holds of every land afterwards. steps-keep, steps-laying: the induction.
 -- Assumes nothing.
 use mathlib.Core.Path.{_≡_, refl, sym, ap, _∙_, subst}
 use mathlib.Core.Logic.{_≢_}
@@ -11,7 +11,8 @@ use mathlib.Core.List.{List, [], _∷_, _++_, map}
 use Prim.Native.Nat.{ℕ, _≤_, _<_, _+_, _*_, _/_}
 use native.Mathlib.Omega.{arith}
 use lib.Dec.{T, T-not, eqb}
-use lib.ListN.{length, getD, set}
+use lib.ListN.{length, getD, set, length-set, List·getD-append}
+use lib.Seq.{getD-set-same, getD-set-other}
 use Rattle.rules.specs.Lists.{at}
 use Rattle.rules.specs.Terms.{leaves, enters, laid, visits, listed}
 use Rattle.rules.specs.Ways.{path, inPlay}
@@ -161,12 +162,29 @@ parted-same ps s z D w =
 pub parted-old : (ps : List ℕ) (s z : State) → Sound (s .turns) (s .lands) → (D : Parted ps s z) → (w : ℕ) → 1 ≤ count w ((D .a ∷ D .m) ++ (D .b ∷ D .n)) → T (laid (s .turns) w)
 parted-old ps s z K D w h = T-flag (laid (s .turns) w) (omega (arith, parted-same ps s z D w, count-at w (s .lands) (D .land), K .cover w))
 
+-- the lands afterwards: the path followed by B keeps the land's number, and the lands of other numbers stay as they were
+module _ (ps : List ℕ) (s z : State) (D : Parted ps s z) where
+  pub parted-lands : z .lands ≡ set (s .lands) (D .land) (listed ((D .d ∷ D .q) ++ D .b ∷ D .n)) ++ (listed (back (D .d ∷ D .q) ++ D .a ∷ D .m) ∷ [])
+  unfolding splitLands
+  parted-lands = D .lands
+
+  parted-as : (j : ℕ) → j < length (s .lands) → getD (z .lands) j [] ≡ getD (set (s .lands) (D .land) (listed ((D .d ∷ D .q) ++ D .b ∷ D .n))) j []
+  parted-as j h =
+      let kept = set (s .lands) (D .land) (listed ((D .d ∷ D .q) ++ D .b ∷ D .n)) in
+      ap (λ (k : List (List ℕ)). getD k j []) parted-lands
+      ∙ List·getD-append kept (listed (back (D .d ∷ D .q) ++ D .a ∷ D .m) ∷ []) [] j (omega (arith, h, length-set (s .lands) (D .land) (listed ((D .d ∷ D .q) ++ D .b ∷ D .n))))
+
+  pub parted-kept : getD (z .lands) (D .land) [] ≡ listed ((D .d ∷ D .q) ++ D .b ∷ D .n)
+  parted-kept = parted-as (D .land) (D .below) ∙ getD-set-same (s .lands) (D .land) (listed ((D .d ∷ D .q) ++ D .b ∷ D .n)) [] (D .below)
+
+  pub parted-others : (j : ℕ) → j < length (s .lands) → j ≢ D .land → getD (z .lands) j [] ≡ getD (s .lands) j []
+  parted-others j h n = parted-as j h ∙ getD-set-other (s .lands) (D .land) j (listed ((D .d ∷ D .q) ++ D .b ∷ D .n)) [] n
+
 -- what holds of every land, and of the two that a path makes of one, holds of every land afterwards
 pub all-parted : (ps : List ℕ) (s z : State) → Sound (s .turns) (s .lands) → (D : Parted ps s z) → (P : List ℕ → Type 0)
     → P (listed ((D .d ∷ D .q) ++ D .b ∷ D .n)) → P (listed (back (D .d ∷ D .q) ++ D .a ∷ D .m)) → All P (s .lands) → All P (z .lands)
-unfolding splitLands
 all-parted ps s z K D P h k C =
-    subst (All P) (sym (D .lands))
+    subst (All P) (sym (parted-lands ps s z D))
     (all-snoc P (set (s .lands) (D .land) (listed ((D .d ∷ D .q) ++ D .b ∷ D .n))) (listed (back (D .d ∷ D .q) ++ D .a ∷ D .m))
     (all-set P P (s .lands) (D .land) (listed ((D .d ∷ D .q) ++ D .b ∷ D .n)) (λ w. omega (arith, K .cover w, flag-le (laid (s .turns) w))) (λ l f c. c) h C) k)
 

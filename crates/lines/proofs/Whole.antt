@@ -21,7 +21,7 @@ use Rattle.land.specs.Walks.{lands, Below}
 use Rattle.print.proofs.Putting.{Cut}
 use Rattle.rounds.specs.declared.Word.{Word}
 use Rattle.rounds.specs.declared.Word.the-variants.{Flat, Stuck, Partial}
-use Rattle.rounds.specs.Stories.{wordIn, nameIn}
+use Rattle.rounds.specs.Words.{wordIn, nameIn}
 use Rattle.rounds.proofs.Word.{the-type}
 use Rattle.lines.specs.Story.{cycleOf, pathsIn, pathsOf, Entries, Told}
 use Rattle.lines.specs.Lines.{lineOfWord, plateOf, pathLines, portLines, flatLines, outcomeOf}

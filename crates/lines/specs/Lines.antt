@@ -23,7 +23,7 @@ use Rattle.reach.specs.Floods.{Tables}
 use Rattle.land.specs.Walks.{lands, Below, Walkable}
 use Rattle.rounds.specs.declared.Word.{Word}
 use Rattle.rounds.specs.declared.Word.the-variants.{Flat, Stuck, Partial}
-use Rattle.rounds.specs.Stories.{wordIn, nameIn}
+use Rattle.rounds.specs.Words.{wordIn, nameIn}
 use Rattle.lines.specs.Story.{pathsOf, Told}
 
 -- a line whose word is given by its bytes

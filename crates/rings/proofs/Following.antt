@@ -3,7 +3,7 @@
 -- darts-begin: the darts of the port. start, step: the invariant at the beginning and after one turn. early: a return while darts are left. end: what it comes to where none is left. bare: a port without darts.
 -- Assumes nothing.
 use mathlib.Core.Path.{_≡_, sym, ap, _∙_, subst}
-use mathlib.Core.Logic.{_≢_, _⊎_, ⊎-elim}
+use mathlib.Core.Logic.{_≢_, ⊎-elim}
 use mathlib.Core.Bool.{true, false}
 use mathlib.Core.List.{List, _∷_}
 use Prim.Native.Nat.{ℕ, suc, _+_, _≤_, _<_}

@@ -5,13 +5,14 @@
 use mathlib.Core.Path.{_≡_, refl, sym, ap, _∙_, subst}
 use mathlib.Core.Logic.{_≢_, _⊎_, ⊎-elim}
 use mathlib.Core.Bool.{Bool}
-use mathlib.Core.List.{List, [], _∷_}
+use mathlib.Core.List.{List, [], _∷_, _++_, append-nil}
 use Prim.Native.Nat.{ℕ, zero, suc, _+_, _-_, _*_, _<_, _≤_}
 use native.Mathlib.Omega.{arith}
-use lib.ListN.{length, getD, take}
-use Rattle.rules.specs.Laying.{State, Choice, Verdict, flat, stuck, ready, Word as RuleWord, FLAT, STUCK, PARTIAL, Outcome, choices, lay, judge, rounds, firstChannel, start, firstCycle, laying}
+use lib.ListN.{length, getD, take, drop, replicate}
+use lib.Seq.{drop-length}
+use Rattle.rules.specs.Laying.{State, Choice, Verdict, flat, stuck, ready, FLAT, STUCK, PARTIAL, Outcome, choices, lay, judge, rounds, firstChannel, start, firstCycle, laying}
 use Rattle.laws.proofs.Choices.{Open, Sensible, Ready as Go, choices-sensible, judge-ready}
-use Rattle.laws.proofs.Rounds.{Layable, Kept}
+use Rattle.laws.proofs.Rounds.{Kept}
 use Rattle.reach.specs.Neighbours.{firstDarts, moreDarts}
 use Rattle.reach.specs.Floods.{Tables}
 use Rattle.land.specs.Walks.{lands, Walkable}
@@ -24,6 +25,8 @@ use Rattle.fragment.proofs.Verdict.{the-type}
 use types.Run.{OneOf}
 use denote.Enum.Declared.{tagOf}
 use Rattle.fragment.specs.Rounds.{stateOf, verdictOf, laidBy}
+use Rattle.fragment.specs.Bars.{Bars}
+use Rattle.fragment.proofs.Barring.{bars-none}
 use Rattle.step.specs.Stories.{storyOf}
 use Rattle.step.specs.Rooms.{Desk, Standing, Chosen, Plan}
 use Rattle.step.proofs.Telling.{lands-few, place-most, count-paths}
@@ -31,7 +34,7 @@ use Rattle.step.proofs.Crossing.{wired-of, lent-of}
 use Rattle.rounds.specs.declared.Word.{Word}
 use Rattle.rounds.specs.declared.Word.the-variants.{Flat, Stuck, Partial}
 use Rattle.rounds.specs.declared.End.{End}
-use Rattle.rounds.specs.Stories.{wordOf, wordIn, nameIn, saidBy, saidOf}
+use Rattle.rounds.specs.Words.{wordOf, wordIn, nameIn, saidOf}
 use Rattle.rounds.specs.Rooms.{Under, Round, Left}
 
 -- ---- the verdict
@@ -167,19 +170,25 @@ count-few v ends play n L t fs ns st count place U = (
 )
 
 module _ (v : ℕ) (ends : List ℕ) (play : List Bool) (n : ℕ) (L : Plan v ends play) (first more : List ℕ) (B : Tables v ends first more) (t₀ fs₀ ns₀ st₀ t fs ns : List ℕ)
-    (laid marks : List Bool) (queue : List ℕ) (touched : List Bool) (contacts : List ℕ) (inside own : List Bool) (st : List ℕ) (count place : ℕ)
-    (R : Round v ends play n t₀ fs₀ ns₀ st₀ t fs ns laid marks queue touched contacts inside own st count place) where
+    (laid marks : List Bool) (queue : List ℕ) (touched : List Bool) (contacts : List ℕ) (inside own : List Bool) (st : List ℕ) (count place : ℕ) (bars : List ℕ)
+    (R : Round v ends play n t₀ fs₀ ns₀ st₀ t fs ns laid marks queue touched contacts inside own st count place bars) where
   abbrev D : Desk v (length play) laid marks queue touched contacts inside own
   D = R .desk
 
-  pub ask-judge : Wired (length laid) ends play first more × (Walkable t fs ns count × ((length t ≡ length ends) × Lent (length laid) marks queue touched contacts))
+  pub ask-judge : Wired (length laid) ends play first more × (Walkable t fs ns count × ((length t ≡ length ends) × (Lent (length laid) marks queue touched contacts × ((count < 65536) × Bars (length laid) ends play t (lands t fs ns count) bars))))
   ask-judge = (
     subst (λ (m : ℕ). Wired m ends play first more) (sym (D .ofLaid)) (wired-of v ends play first more L B),
     (
       holds-walkable ends play (R .under .state) (R .under .stands .kept) t fs ns count (R .under .stands .holds) v (L .layable),
       (
         holds-long ends play (R .under .state) (R .under .stands .kept) t fs ns count (R .under .stands .holds),
-        subst (λ (m : ℕ). Lent m marks queue touched contacts) (sym (D .ofLaid)) (lent-of v (length play) laid marks queue touched contacts inside own (L .small) D),
+        (
+          subst (λ (m : ℕ). Lent m marks queue touched contacts) (sym (D .ofLaid)) (lent-of v (length play) laid marks queue touched contacts inside own (L .small) D),
+          (
+            omega (arith, count-few v ends play n L t fs ns st count place (R .under) .1, L .layable .size2, L .layable .few),
+            subst (λ (m : ℕ). Bars m ends play t (lands t fs ns count) bars) (sym (D .ofLaid)) (R .bars),
+          ),
+        ),
       ),
     ),
   )
@@ -190,7 +199,7 @@ module _ (v : ℕ) (ends : List ℕ) (play : List Bool) (n : ℕ) (L : Plan v en
 
   module _ (laid′ marks′ : List Bool) (queue′ : List ℕ) (touched′ : List Bool) (contacts′ : List ℕ)
       (el : length laid′ ≡ length laid) (em : length marks′ ≡ length marks) (eq : length queue′ ≡ length queue) (et : length touched′ ≡ length touched) (ec : length contacts′ ≡ length contacts)
-      (lp : laid′ ≡ laidBy (length laid) ends t) (c : Named) (h : SaidReady c ≡ verdictOf (judge (length laid) ends play (stateOf t (lands t fs ns count)))) where
+      (lp : laid′ ≡ laidBy (length laid) ends t) (bars′ : List ℕ) (told : Bars (length laid) ends play t (lands t fs ns count) bars′) (c : Named) (h : SaidReady c ≡ verdictOf (judge (length laid) ends play (stateOf t (lands t fs ns count)))) where
     e : length laid′ ≡ v
     e = el ∙ D .ofLaid
 
@@ -203,24 +212,28 @@ module _ (v : ℕ) (ends : List ℕ) (play : List Bool) (n : ℕ) (L : Plan v en
     C : Chosen v ends play (R .under .state) (found v ends play n L t fs ns st count place (R .under) c h′ .0) t fs ns st count place laid′ (c .name) (c .land)
     C = chosen v ends play n L t fs ns st count place (R .under) c h′ laid′ (lp ∙ ap (λ (m : ℕ). laidBy m ends t) (D .ofLaid))
 
-    pub ask-lay : Plan (length laid′) ends play × (Tables (length laid′) ends first more × (Desk (length laid′) (length play) laid′ marks′ queue′ touched′ contacts′ inside own × ((s : State) × ((a : Choice) × Chosen (length laid′) ends play s a t fs ns st count place laid′ (c .name) (c .land)))))
+    pub ask-lay : Plan (length laid′) ends play × (Tables (length laid′) ends first more × (Desk (length laid′) (length play) laid′ marks′ queue′ touched′ contacts′ inside own × (((s : State) × ((a : Choice) × Chosen (length laid′) ends play s a t fs ns st count place laid′ (c .name) (c .land)))
+        × Bars (length laid′) ends play t (lands t fs ns count) bars′)))
     ask-lay = (
       subst (λ (m : ℕ). Plan m ends play) (sym e) L,
       (
         subst (λ (m : ℕ). Tables m ends first more) (sym e) B,
         (
           subst (λ (m : ℕ). Desk m (length play) laid′ marks′ queue′ touched′ contacts′ inside own) (sym e) desk′,
-          (R .under .state, (found v ends play n L t fs ns st count place (R .under) c h′ .0, subst (λ (m : ℕ). Chosen m ends play (R .under .state) (found v ends play n L t fs ns st count place (R .under) c h′ .0) t fs ns st count place laid′ (c .name) (c .land)) (sym e) C)),
+          (
+            (R .under .state, (found v ends play n L t fs ns st count place (R .under) c h′ .0, subst (λ (m : ℕ). Chosen m ends play (R .under .state) (found v ends play n L t fs ns st count place (R .under) c h′ .0) t fs ns st count place laid′ (c .name) (c .land)) (sym e) C)),
+            subst (λ (m : ℕ). Bars m ends play t (lands t fs ns count) bars′) (sym el) told,
+          ),
         ),
       ),
     )
 
-    pub next-round : count - 2 ≢ n → (t′ fs′ ns′ : List ℕ) (marks″ : List Bool) (queue″ : List ℕ) (touched″ : List Bool) (contacts″ : List ℕ) (inside″ own″ : List Bool) (st′ : List ℕ) (place′ : ℕ)
+    pub next-round : count - 2 ≢ n → (t′ fs′ ns′ : List ℕ) (marks″ : List Bool) (queue″ : List ℕ) (touched″ : List Bool) (contacts″ : List ℕ) (inside″ own″ : List Bool) (st′ : List ℕ) (place′ : ℕ) (bars″ : List ℕ)
         → ((s : State) (a : Choice) → Chosen (length laid′) ends play s a t fs ns st count place laid′ (c .name) (c .land) → Standing (length laid′) ends play (lay (length laid′) ends play s a) t′ fs′ ns′ st′ (count + 1) place′)
         → length t′ ≡ length t → length fs′ ≡ length fs → length ns′ ≡ length ns → length marks″ ≡ length marks′ → length queue″ ≡ length queue′ → length touched″ ≡ length touched′ → length contacts″ ≡ length contacts′
-        → length inside″ ≡ length inside → length own″ ≡ length own → length st′ ≡ length st
-        → Round v ends play n t₀ fs₀ ns₀ st₀ t′ fs′ ns′ laid′ marks″ queue″ touched″ contacts″ inside″ own″ st′ (count + 1) place′
-    next-round ne t′ fs′ ns′ marks″ queue″ touched″ contacts″ inside″ own″ st′ place′ F a1 a2 a3 a4 a5 a6 a7 a8 a9 a10 =
+        → length inside″ ≡ length inside → length own″ ≡ length own → length st′ ≡ length st → Bars (length laid′) ends play t′ (lands t′ fs′ ns′ (count + 1)) bars″
+        → Round v ends play n t₀ fs₀ ns₀ st₀ t′ fs′ ns′ laid′ marks″ queue″ touched″ contacts″ inside″ own″ st′ (count + 1) place′ bars″
+    next-round ne t′ fs′ ns′ marks″ queue″ touched″ contacts″ inside″ own″ st′ place′ bars″ F a1 a2 a3 a4 a5 a6 a7 a8 a9 a10 b =
         let S = subst (λ (m : ℕ). (s : State) (a : Choice) → Chosen m ends play s a t fs ns st count place laid′ (c .name) (c .land) → Standing m ends play (lay m ends play s a) t′ fs′ ns′ st′ (count + 1) place′) e F (R .under .state) (found v ends play n L t fs ns st count place (R .under) c h′ .0) C in
         record {
           under = going v ends play n L t fs ns st count place (R .under) c h′ ne t′ fs′ ns′ st′ place′ S;
@@ -229,6 +242,7 @@ module _ (v : ℕ) (ends : List ℕ) (play : List Bool) (n : ℕ) (L : Plan v en
           ofFirsts = a2 ∙ R .ofFirsts;
           ofLens = a3 ∙ R .ofLens;
           ofStory = a10 ∙ R .ofStory;
+          bars = subst (λ (m : ℕ). Bars m ends play t′ (lands t′ fs′ ns′ (count + 1)) bars″) e b;
         }
 
 -- ---- the start
@@ -264,16 +278,25 @@ module _ (v : ℕ) (ends : List ℕ) (play : List Bool) (n : ℕ) (L : Plan v en
   ask-first t fs ns st a b c d =
       (subst (λ (m : ℕ). Plan m ends play) (sym e) L, (tables, (a, (b, (c, ((D .ofContacts ∙ sym e, D .ofInside ∙ sym e, D .ofOwn), omega (arith, e)))))))
 
+  -- the numbers are all 0
+  cleared : (m : ℕ) (t : List ℕ) (ls : List (List ℕ)) (bars bars′ : List ℕ) → length bars ≡ length ends → bars′ ≡ take 0 bars ++ replicate (length bars - 0) 0 ++ drop (length bars) bars → Bars m ends play t ls bars′
+  cleared m t ls bars bars′ a b =
+      let all : length bars - 0 ≡ length bars = omega arith in
+      subst (Bars m ends play t ls) (sym (b ∙ ap (λ (l : List ℕ). replicate (length bars - 0) 0 ++ l) (drop-length bars) ∙ append-nil (replicate (length bars - 0) 0) ∙ ap (λ (k : ℕ). replicate k 0) all))
+      (bars-none m ends play t ls (length bars) a)
+
   pub ask-rounds : (contacts′ : List ℕ) (inside′ own′ : List Bool) → length contacts′ ≡ length contacts → length inside′ ≡ length inside → length own′ ≡ length own → (t fs ns st : List ℕ) (place : ℕ)
       → Standing (length first) ends play (start (length first) ends play (firstChannel (length first) ends play)) t fs ns st 2 place
-      → Plan (length first) ends play × (Tables (length first) ends first more × (Desk (length first) (length play) laid marks queue touched contacts′ inside′ own′ × Under (length first) ends play n t fs ns st 2 place))
-  ask-rounds contacts′ inside′ own′ a b c t fs ns st place S = (
+      → (bars bars′ : List ℕ) → length bars ≡ length ends → bars′ ≡ take 0 bars ++ replicate (length bars - 0) 0 ++ drop (length bars) bars
+      → Plan (length first) ends play × (Tables (length first) ends first more × (Desk (length first) (length play) laid marks queue touched contacts′ inside′ own′ × (Under (length first) ends play n t fs ns st 2 place
+      × Bars (length first) ends play t (lands t fs ns 2) bars′)))
+  ask-rounds contacts′ inside′ own′ a b c t fs ns st place S bars bars′ f g = (
     subst (λ (m : ℕ). Plan m ends play) (sym e) L,
     (
       tables,
       (
         record { ofLaid = D .ofLaid ∙ sym e; ofMarks = D .ofMarks ∙ sym e; ofQueue = D .ofQueue ∙ sym e; ofTouched = D .ofTouched ∙ sym e; ofContacts = a ∙ D .ofContacts ∙ sym e; ofInside = b ∙ D .ofInside ∙ sym e; ofOwn = c ∙ D .ofOwn },
-        setting-out (length first) ends play n t fs ns st place S,
+        (setting-out (length first) ends play n t fs ns st place S, cleared (length first) t (lands t fs ns 2) bars bars′ f g),
       ),
     ),
   )

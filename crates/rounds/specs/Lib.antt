@@ -1,2 +1,2 @@
-pub mod Stories
+pub mod Words
 pub mod Rooms

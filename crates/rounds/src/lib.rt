@@ -3,10 +3,13 @@ ghost use mathlib.Core.Path.{_≡_};
 ghost use Prim.Native.Nat.{_+_, _*_, _≤_};
 ghost use lib.ListN.{length};
 ghost use Rattle.reach.specs.Floods.{Tables};
+ghost use Rattle.land.specs.Walks.{lands};
+ghost use Rattle.fragment.specs.Bars.{Bars};
 ghost use Rattle.step.specs.Rooms.{Desk, Plan};
-ghost use Rattle.rounds.specs.Stories.{wordOf};
+ghost use Rattle.rounds.specs.Words.{wordOf};
 ghost use Rattle.rounds.specs.Rooms.{Under, Left};
 use fragment::Verdict;
+use numbers::fill;
 
 // What the end of a laying says: the word, and the name where it is STUCK.
 pub enum Word {
@@ -53,11 +56,13 @@ fn rounds(
     own: &mut [bool],
     story: &mut [u16],
     begun: usize,
+    bars: &mut [u16],
 ) -> End
     requires plan { ⌜ Plan (length (now first)) (now ends) (now play) ⌝ }
     requires tables { ⌜ Tables (length (now first)) (now ends) (now first) (now more) ⌝ }
     requires desk { ⌜ Desk (length (now first)) (length (now play)) (now laid) (now marks) (now queue) (now touched) (now contacts) (now inside) (now own) ⌝ }
     requires under { ⌜ Under (length (now first)) (now ends) (now play) n (now turns) (now firsts) (now lens) (now story) 2 begun ⌝ }
+    requires bars { ⌜ Bars (length (now first)) (now ends) (now play) (now turns) (lands (now turns) (now firsts) (now lens) 2) (now bars) ⌝ }
     ensures { λ r. ⌜ Left (length (now (first .entry))) (now (ends .entry)) (now (play .entry)) n (now (first .entry)) (now (more .entry)) (now (turns .exit)) (now (firsts .exit)) (now (lens .exit)) (now (story .exit)) r ⌝ }
 {
     let mut count = 2;
@@ -77,6 +82,7 @@ fn rounds(
             queue,
             touched,
             contacts,
+            bars,
         );
         let paths = count - 2;
         let Verdict::Ready(c) = said else {
@@ -115,6 +121,7 @@ fn rounds(
             own,
             story,
             at,
+            bars,
         );
         count += 1;
     }
@@ -138,6 +145,7 @@ pub fn lay_out(
     inside: &mut [bool],
     own: &mut [bool],
     story: &mut [u16],
+    bars: &mut [u16],
 ) -> End
     requires plan { ⌜ Plan (length (now first)) (now ends) (now play) ⌝ }
     requires more { ⌜ length (now more) ≡ length (now ends) ⌝ }
@@ -146,6 +154,7 @@ pub fn lay_out(
     requires sizes { ⌜ length (now play) + 2 ≤ length (now lens) ⌝ }
     requires desk { ⌜ Desk (length (now first)) (length (now play)) (now laid) (now marks) (now queue) (now touched) (now contacts) (now inside) (now own) ⌝ }
     requires room { ⌜ 4 * length (now play) + length (now first) + 4 ≤ length (now story) ⌝ }
+    requires bars { ⌜ length (now bars) ≡ length (now ends) ⌝ }
     ensures { λ r. ⌜ Left (length (now (first .entry))) (now (ends .entry)) (now (play .entry)) n (now (first .exit)) (now (more .exit)) (now (turns .exit)) (now (firsts .exit)) (now (lens .exit)) (now (story .exit)) r ⌝ }
 {
     reach::neighbours(ends, first, more);
@@ -162,6 +171,8 @@ pub fn lay_out(
         own,
         story,
     );
+    let darts = bars.len();
+    fill(bars, 0, darts, 0);
     rounds(
         ends,
         first,
@@ -180,5 +191,6 @@ pub fn lay_out(
         own,
         story,
         begun,
+        bars,
     )
 }

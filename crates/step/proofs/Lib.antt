@@ -3,3 +3,4 @@ pub mod Writing
 pub mod Crossing
 pub mod Telling
 pub mod Entering
+pub mod Forgetting

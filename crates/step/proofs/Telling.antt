@@ -59,6 +59,10 @@ choice-name : (v : ℕ) (ends : List ℕ) (play lp : List Bool) (ls : List (List
 unfolding choiceOf fragmentAt
 choice-name v ends play lp ls k = refl
 
+choice-fragment : (v : ℕ) (ends : List ℕ) (play lp : List Bool) (ls : List (List ℕ)) (k : ℕ) → choiceAt v ends play lp ls k .fragment ≡ fragmentAt v ends play lp k
+unfolding choiceOf
+choice-fragment v ends play lp ls k = refl
+
 choice-contacts : (v : ℕ) (ends : List ℕ) (play lp : List Bool) (ls : List (List ℕ)) (k : ℕ) → choiceAt v ends play lp ls k .contacts ≡ contactsAt v ends play lp k
 unfolding choiceOf
 choice-contacts v ends play lp ls k = refl
@@ -92,6 +96,9 @@ module _ (v : ℕ) (ends : List ℕ) (play : List Bool) (G : Layable v ends play
   chosen-choice : c ≡ choiceAt v ends play lp (s .lands) name
   chosen-choice =
       C .sensible .1 ∙ ap (λ (m : List Bool). choiceAt v ends play m (s .lands) k) (sym same-ports) ∙ ap (choiceAt v ends play lp (s .lands)) (sym same-name)
+
+  pub chosen-fragment : c .fragment ≡ fragmentAt v ends play lp name
+  chosen-fragment = ap (λ (e : Choice). e .fragment) chosen-choice ∙ choice-fragment v ends play lp (s .lands) name
 
   pub chosen-contacts : c .contacts ≡ contactsAt v ends play lp name
   chosen-contacts = ap (λ (e : Choice). e .contacts) chosen-choice ∙ choice-contacts v ends play lp (s .lands) name

@@ -4,17 +4,18 @@
 --   contactsAt v ends play lp k     the contacts of the fragment that channel k names, lp being the laid ports
 --   pathAt v ends play lp k         the path that is laid for it
 --   Passable v ends play lp k       it has two contacts at least, and a path between the two smallest
---   Crossed v ends play lp k ..     that path stands at the front of a slice
+--   Crossed v ends play lp k ..     that path stands at the front of a slice, and the fragment's channels are flagged
+--   forgotten own bars              two numbers for each channel, with zeros for those that own flags
 --   Standing v ends play s ..       the slices hold the state s: its turns, its lands by first darts and lengths, and its story; and they have room for more
 --   Chosen v ends play s c ..       so they do, and c is a choice for s with an admissible land, as the code tells it
 -- Assumes nothing.
 use mathlib.Core.Path.{_≡_}
-use mathlib.Core.Bool.{Bool, true, _||_}
-use mathlib.Core.List.{List, _++_}
-use Prim.Native.Nat.{ℕ, _+_, _*_, _<_, _≤_}
+use mathlib.Core.Bool.{Bool, true, cond, _||_}
+use mathlib.Core.List.{List, _++_, map}
+use Prim.Native.Nat.{ℕ, _+_, _*_, _/_, _<_, _≤_}
 use lib.Dec.{T, eqb}
 use lib.ListN.{length, getD, take, drop}
-use Rattle.rules.specs.Lists.{at}
+use Rattle.rules.specs.Lists.{from, at}
 use Rattle.rules.specs.Terms.{missing}
 use Rattle.rules.specs.Ways.{only, iter, larger, path}
 use Rattle.rules.specs.Laying.{State, Choice, within, fragmentAt, contactsOf, firstCycle}
@@ -60,11 +61,17 @@ pub record Passable (v : ℕ) (ends : List ℕ) (play lp : List Bool) (k : ℕ) 
   pub reached : T (at (iter (larger ends (within v ends play (fragmentAt v ends play lp k)) (λ p. at (fragmentAt v ends play lp k .ports) p || eqb p (getD (contactsAt v ends play lp k) 0 0))) v
       (only v (getD (contactsAt v ends play lp k) 1 0))) (getD (contactsAt v ends play lp k) 0 0))
 
-pub record Crossed (v : ℕ) (ends : List ℕ) (play lp : List Bool) (k : ℕ) (out out′ : List ℕ) (r : Way) : Type 0 where
+pub record Crossed (v : ℕ) (ends : List ℕ) (play lp : List Bool) (k : ℕ) (out out′ : List ℕ) (own′ : List Bool) (r : Way) : Type 0 where
   pub x : r .x ≡ getD (contactsAt v ends play lp k) 0 0
   pub y : r .y ≡ getD (contactsAt v ends play lp k) 1 0
   pub size : r .size ≡ length (pathAt v ends play lp k)
   pub held : out′ ≡ pathAt v ends play lp k ++ drop (length (pathAt v ends play lp k)) out
+  pub own : own′ ≡ map (λ j. within v ends play (fragmentAt v ends play lp k) (2 * j)) (from 0 (length play))
+
+-- ---- what is known of the lands
+
+unfoldable pub forgotten : List Bool → List ℕ → List ℕ
+forgotten own bars = map (λ j. cond (at own (j / 2)) 0 (getD bars j 0)) (from 0 (length bars))
 
 -- ---- the state that is held
 

@@ -6,7 +6,9 @@ ghost use lib.ListN.{length, set};
 ghost use Rattle.rules.specs.Lists.{at, seek};
 ghost use Rattle.rules.specs.Laying.{State, Choice, start, lay, firstChannel};
 ghost use Rattle.reach.specs.Floods.{Tables};
-ghost use Rattle.step.specs.Rooms.{Desk, Passable, Crossed, Standing, Chosen, Plan};
+ghost use Rattle.land.specs.Walks.{lands};
+ghost use Rattle.fragment.specs.Bars.{Bars};
+ghost use Rattle.step.specs.Rooms.{Desk, Passable, Crossed, forgotten, Standing, Chosen, Plan};
 use numbers::mark_all;
 use numbers::narrow;
 use numbers::wide;
@@ -58,7 +60,21 @@ fn enter(story: &mut [u16], at: usize, name: usize, land: usize, size: usize)
     story[at + 2] = narrow(size);
 }
 
-// The path that is laid for the fragment that channel k names, at the front of `out`.
+// Forgets what is known of the lands for the channels that `own` flags.
+fn forget(own: &[bool], bars: &mut [u16])
+    requires { ⌜ length (now bars) ≡ 2 * length (now own) ⌝ }
+    ensures { λ _. ⌜ now (bars .exit) ≡ forgotten (now (own .entry)) (now (bars .entry)) ⌝ }
+{
+    let mut j = 0;
+    while j < bars.len() {
+        if own[j / 2] {
+            bars[j] = 0;
+        }
+        j += 1;
+    }
+}
+
+// The path that is laid for the fragment that channel k names, at the front of `out`, and the fragment's channels, flagged in `own`.
 fn cross(
     ends: &[u16],
     first: &[u16],
@@ -79,7 +95,7 @@ fn cross(
     requires desk { ⌜ Desk (length (now laid)) (length (now play)) (now laid) (now marks) (now queue) (now touched) (now contacts) (now inside) (now own) ⌝ }
     requires room { ⌜ length (now laid) ≤ length (now out) ⌝ }
     requires passable { ⌜ Passable (length (now laid)) (now ends) (now play) (now laid) k ⌝ }
-    ensures { λ r. ⌜ Crossed (length (now (laid .entry))) (now (ends .entry)) (now (play .entry)) (now (laid .entry)) k (now (out .entry)) (now (out .exit)) r ⌝ }
+    ensures { λ r. ⌜ Crossed (length (now (laid .entry))) (now (ends .entry)) (now (play .entry)) (now (laid .entry)) k (now (out .entry)) (now (out .exit)) (now (own .exit)) r ⌝ }
 {
     let two = fragment::two_contacts(
         ends,
@@ -100,7 +116,7 @@ fn cross(
     Way { x, y, size }
 }
 
-// Lays one path, for the fragment of this name in this land, and adds its entry to the story. Answers the length of the story.
+// Lays one path, for the fragment of this name in this land, and adds its entry to the story. Forgets what is known of the lands for the fragment's channels, and keeps it for all others. Answers the length of the story.
 pub fn lay_one(
     ends: &[u16],
     first: &[u16],
@@ -121,12 +137,15 @@ pub fn lay_one(
     own: &mut [bool],
     story: &mut [u16],
     at: usize,
+    bars: &mut [u16],
 ) -> usize
     requires plan { ⌜ Plan (length (now laid)) (now ends) (now play) ⌝ }
     requires tables { ⌜ Tables (length (now laid)) (now ends) (now first) (now more) ⌝ }
     requires desk { ⌜ Desk (length (now laid)) (length (now play)) (now laid) (now marks) (now queue) (now touched) (now contacts) (now inside) (now own) ⌝ }
     requires chosen { ⌜ ((s : State) × ((c : Choice) × Chosen (length (now laid)) (now ends) (now play) s c (now turns) (now firsts) (now lens) (now story) count at (now laid) name land)) ⌝ }
-    ensures { λ r. ⌜ ((s : State) (c : Choice) → Chosen (length (now (laid .entry))) (now (ends .entry)) (now (play .entry)) s c (now (turns .entry)) (now (firsts .entry)) (now (lens .entry)) (now (story .entry)) count at (now (laid .entry)) name land → Standing (length (now (laid .entry))) (now (ends .entry)) (now (play .entry)) (lay (length (now (laid .entry))) (now (ends .entry)) (now (play .entry)) s c) (now (turns .exit)) (now (firsts .exit)) (now (lens .exit)) (now (story .exit)) (count + 1) r) ⌝ }
+    requires bars { ⌜ Bars (length (now laid)) (now ends) (now play) (now turns) (lands (now turns) (now firsts) (now lens) count) (now bars) ⌝ }
+    ensures standing { λ r. ⌜ ((s : State) (c : Choice) → Chosen (length (now (laid .entry))) (now (ends .entry)) (now (play .entry)) s c (now (turns .entry)) (now (firsts .entry)) (now (lens .entry)) (now (story .entry)) count at (now (laid .entry)) name land → Standing (length (now (laid .entry))) (now (ends .entry)) (now (play .entry)) (lay (length (now (laid .entry))) (now (ends .entry)) (now (play .entry)) s c) (now (turns .exit)) (now (firsts .exit)) (now (lens .exit)) (now (story .exit)) (count + 1) r) ⌝ }
+    ensures bars { λ _. ⌜ Bars (length (now (laid .entry))) (now (ends .entry)) (now (play .entry)) (now (turns .exit)) (lands (now (turns .exit)) (now (firsts .exit)) (now (lens .exit)) (count + 1)) (now (bars .exit)) ⌝ }
 {
     let from = at + 3;
     let way = cross(
@@ -144,6 +163,7 @@ pub fn lay_one(
         own,
         &mut story[from..],
     );
+    forget(own, bars);
     let size = way.size;
     let end = from + size;
     split::divide(

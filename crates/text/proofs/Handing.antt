@@ -23,7 +23,7 @@ use Rattle.land.proofs.Laws.{below-of}
 use Rattle.split.proofs.Laws.{holds-lands, holds-walkable}
 use Rattle.rounds.specs.declared.End.{End}
 use Rattle.step.specs.Stories.{storyOf}
-use Rattle.rounds.specs.Stories.{wordIn, nameIn, saidBy, saidOf}
+use Rattle.rounds.specs.Words.{wordIn, nameIn, saidBy, saidOf}
 use Rattle.rounds.specs.Rooms.{Left}
 use Rattle.lines.specs.Story.{cycleOf, pathsOf, Told}
 use Rattle.lines.specs.Lines.{plateOf, outcomeOf, Ringed, Held}

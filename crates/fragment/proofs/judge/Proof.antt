@@ -10,13 +10,14 @@ use lib.ListN.{length}
 use Rattle.land.specs.Walks.{lands}
 use Rattle.fragment.specs.Fragments.{Wired, Lent}
 use Rattle.fragment.specs.Rounds.{laidBy}
+use Rattle.fragment.specs.Bars.{Bars}
 use Rattle.fragment.proofs.Choosing.{flat-told, told-as}
 use Rattle.fragment.proofs.judge.Statement.{statement}
 use Rattle.fragment.proofs.judge.Tie as tie
 
 -- the laid ports, as many as there are ports
 abbrev start : tie.After-laid-ports → tie.Start
-start c = c .before .before .before .before .before .before .before .before .before .before .before .before .before .before
+start c = c .before .before .before .before .before .before .before .before .before .before .before .before .before .before .before
 
 abbrev laid : tie.After-laid-ports → List Bool
 laid c = c .laid-ports .last .1 .1 .0
@@ -36,9 +37,14 @@ wired c = subst (λ (v : ℕ). Wired v (start c .args .ends .now) (start c .args
 
 lent : (c : tie.After-copy) → Lent (length (laid (at-copy c))) (c .copy .last .1 .0) (start (at-copy c) .args .queue .now) (start (at-copy c) .args .touched .now) (start (at-copy c) .args .contacts .now)
 lent c =
-    let l = start (at-copy c) .pre .1 .1 .1 in
+    let l = start (at-copy c) .pre .1 .1 .1 .0 in
     let k = sym (kept (at-copy c)) in
     record { small = omega (arith, l .small, k); ofMarks = ap length (c .copy .ensures); ofQueue = l .ofQueue ∙ k; ofTouched = l .ofTouched ∙ k; ofContacts = l .ofContacts ∙ k }
+
+bars : (c : tie.After-laid-ports) → Bars (length (laid c)) (start c .args .ends .now) (start c .args .play .now) (start c .args .turns .now) (lands (start c .args .turns .now) (start c .args .firsts .now) (start c .args .lens .now) (start c .args .count)) (start c .args .bars .now)
+bars c =
+    let s = start c in
+    subst (λ (v : ℕ). Bars v (s .args .ends .now) (s .args .play .now) (s .args .turns .now) (lands (s .args .turns .now) (s .args .firsts .now) (s .args .lens .now) (s .args .count)) (s .args .bars .now)) (sym (kept c)) (s .pre .1 .1 .1 .1 .1)
 
 laid-ports-requires : tie.Need-laid-ports-requires
 laid-ports-requires c κs = search needs
@@ -52,17 +58,17 @@ same-length c = search needs
 returns : tie.Need-returns
 returns c =
     let l = c .before .before .before .before in
-    (flat-told _ _ _ _ _ (sym (c .before .all-laid .ensures _ _) ∙ c .if1 .taken), l .laid-ports .ensures)
+    (flat-told _ _ _ _ _ (sym (c .before .all-laid .ensures _ _) ∙ c .if1 .taken), (l .laid-ports .ensures, start l .pre .1 .1 .1 .1 .1))
 
 copy-requires : tie.Need-copy-requires
 copy-requires c κs = search needs
 
 decide-requires : tie.Need-decide-requires
 decide-requires c κs =
-    let p = c .before .before .before .before .before .before .before in
+    let p = c .before .before .before .before .before .before .before .before in
     let l = at-copy p in
     let s = start l in
-    (wired l, (s .pre .1 .0, (s .pre .1 .1 .0, (lent p, (found l, (p .copy .ensures, sym (c .before .before .before .before .before .before .before .before .before .before .before .all-laid .ensures (length (laid l)) (s .args .ends .now)) ∙ c .before .before .before .before .before .before .before .before .before .before .if1 .left))))))
+    (wired l, (s .pre .1 .0, (s .pre .1 .1 .0, (lent p, (found l, (p .copy .ensures, (sym (c .before .before .before .before .before .before .before .before .before .before .before .before .all-laid .ensures (length (laid l)) (s .args .ends .now)) ∙ c .before .before .before .before .before .before .before .before .before .before .before .if1 .left, (s .pre .1 .1 .1 .1 .0, bars l))))))))
 
 same-length-2 : tie.Need-same-length-2
 same-length-2 c = search needs
@@ -79,11 +85,15 @@ same-length-5 c = search needs
 same-length-6 : tie.Need-same-length-6
 same-length-6 c = search needs
 
+same-length-7 : tie.Need-same-length-7
+same-length-7 c = search needs
+
 returns-2 : tie.Need-returns-2
 returns-2 c =
-    let l = at-copy (c .before .before .before .before .before .before .before .before .before .before .before .before .before .before .before .before) in
+    let l = at-copy (c .before .before .before .before .before .before .before .before .before .before .before .before .before .before .before .before .before .before .before) in
+    let d = c .before .before .before .before .before .before .before .before .before .before in
     let s = start l in
-    (told-as _ _ (s .args .ends .now) (s .args .play .now) (s .args .turns .now) (lands (s .args .turns .now) (s .args .firsts .now) (s .args .lens .now) (s .args .count)) _ (kept l) (c .before .before .before .before .before .before .before .before .decide .ensures), l .laid-ports .ensures)
+    (told-as _ _ (s .args .ends .now) (s .args .play .now) (s .args .turns .now) (lands (s .args .turns .now) (s .args .firsts .now) (s .args .lens .now) (s .args .count)) _ (kept l) (d .decide .ensures .0), (l .laid-ports .ensures, subst (λ (v : ℕ). Bars v (s .args .ends .now) (s .args .play .now) (s .args .turns .now) (lands (s .args .turns .now) (s .args .firsts .now) (s .args .lens .now) (s .args .count)) (d .decide .last .1 .1 .1 .1 .1 .1 .1 .1 .1 .1 .1 .1 .1 .0)) (kept l) (d .decide .ensures .1)))
 
 pub judge-spec : {M : Type 1} → statement M
 judge-spec =
@@ -100,4 +110,5 @@ judge-spec =
     same-length-4
     same-length-5
     same-length-6
+    same-length-7
     returns-2)

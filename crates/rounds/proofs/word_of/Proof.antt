@@ -1,7 +1,7 @@
 -- `rounds::word_of` meets its contract: each case has its word.
 -- Assumes nothing.
 use mathlib.Core.Path.{ap, sym}
-use Rattle.rounds.specs.Stories.{wordOf}
+use Rattle.rounds.specs.Words.{wordOf}
 use borrow.Author.Needs.{needs}
 use Rattle.rounds.proofs.word_of.Statement.{statement}
 use Rattle.rounds.proofs.word_of.Tie as tie

@@ -1,7 +1,7 @@
 -- What callers use of the writing call's definitions (rules, `writeSheet` and `sheetLeft`): a sheet that is written reads back.
 -- b is any file, old any buffer that is lent, and s the sheet that the call gives; nothing else is supposed of them.
 --   left                    the buffer afterwards
--- done-given: where the code's answer is Done, the call gives a sheet. sheet-left, rest-left: the buffer begins with the sheet, and behind it is as it was. written-plate: the file is read into a plate, and the buffer has the length that its sheet needs.
+-- sheet-left, rest-left: the buffer begins with the sheet, and behind it is as it was. written-plate: the file is read into a plate, and the buffer has the length that its sheet needs.
 -- written-judged, written-read: what is left at the front of the buffer is judged flat, and read into the lands that were laid, in order of smallest dart.
 -- Assumes nothing.
 use mathlib.Core.Path.{_≡_, refl, sym, ap, _∙_, subst}
@@ -14,19 +14,12 @@ use lib.ListN.{length, take, drop}
 use lib.Seq.{take-append-seam, drop-append-seam}
 use Rattle.rules.specs.Lists.{any}
 use Rattle.rules.specs.Files.{sheetFile, fileLength}
-use Rattle.rules.specs.Refusals.{Answer, given, refused, passed, refuse, lentTest, Plate, Sheet, readPlate, readTurns}
+use Rattle.rules.specs.Refusals.{Answer, given, passed, refuse, lentTest, Plate, Sheet, readPlate, readTurns}
 use Rattle.rules.specs.Laying.{withoutCap, laidOut}
 use Rattle.rules.specs.Sheets.{Judged, judged, judgeSheet, readSheet, writeSheet, sheetLeft}
-use Rattle.laws.proofs.Refusals.{bind-given, then-given, given-inj, refused-not, refuse-passed}
+use Rattle.laws.proofs.Refusals.{bind-given, then-given, given-inj, refuse-passed}
 use Rattle.laws.proofs.InOrder.{inOrder}
 use Rattle.laws.proofs.Demands.{written-reads}
-use Rattle.draft.specs.declared.Written.the-variants.{Done}
-use Rattle.draft.specs.Answers.{writtenAnswer, done}
-
-pub done-given : (a : Answer (List ℕ)) → writtenAnswer Done ≡ done a → (s : List ℕ) × (a ≡ given s)
-unfolding writtenAnswer done
-done-given (given s) e = (s, refl)
-done-given (refused n p) e = absurd (refused-not n p tt (sym e))
 
 -- a buffer that is not too short
 lent-long : (needed lent : ℕ) → lentTest (record { needed = needed; lent = lent } ∷ []) ≡ passed → needed ≤ lent

@@ -10,4 +10,3 @@ pub mod Weighing
 pub mod Barring
 pub mod Judging
 pub mod Owning
-pub mod Telling

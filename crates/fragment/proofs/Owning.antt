@@ -2,25 +2,20 @@
 --   own              channel j is one of the fragment that k names and that has the ports `ports`
 --   inner p          port p is marked, and not laid
 -- own-out, own-name, own-first, own-second: the four tests for one channel. inner-out, inner-in: the two tests for one port. inner-is: the ports that are marked and not laid, where the fragment has spread over the laid ports. fragment-is, own-as: the fragment, put together.
--- For callers: own-within: a dart is one of the fragment's where its channel's flag is set; own-function: the same, of all darts at once.
 -- Assumes nothing.
 use mathlib.Core.Path.{_≡_, refl, sym, ap, _∙_, subst, fun-ext}
 use mathlib.Core.Logic.{_≢_, ⊎-elim}
 use mathlib.Core.Bool.{Bool, true, false, not, _&&_, _||_}
 use mathlib.Core.List.{List, map}
-use Prim.Native.Nat.{ℕ, _+_, _*_, _/_, _<_}
-use native.Mathlib.Nat.{zero-add}
-use native.Mathlib.Decide.{decLt}
+use Prim.Native.Nat.{ℕ, _+_, _*_}
 use lib.Dec.{T, T-not}
 use lib.ListN.{length, getD}
 use Rattle.rules.specs.Lists.{from, at}
-use Rattle.rules.specs.Terms.{leaves, enters, reverse}
+use Rattle.rules.specs.Terms.{leaves, enters}
 use Rattle.rules.specs.Laying.{Fragment, within, fragmentAt}
 use Rattle.laws.proofs.Tests.{eqb-yes, eqb-no, and-T, T-and, or-T, T-or₂, same-flag}
-use Rattle.laws.proofs.Sets.{at-lt}
-use Rattle.laws.proofs.Runs.{reverse-reverse, channel-darts, channel-of}
-use Rattle.laws.proofs.Fragments.{inside, length-inside, inside-unlaid, within-play, within-reverse}
-use Rattle.laws.proofs.Seeking.{length-map-from, getD-map-from}
+use Rattle.laws.proofs.Runs.{channel-of}
+use Rattle.laws.proofs.Fragments.{inside, length-inside, inside-unlaid}
 use Rattle.fragment.specs.Fragments.{Spread}
 use Rattle.fragment.proofs.Spreading.{reverse-first}
 use Rattle.fragment.proofs.Rising.{map-at}
@@ -92,35 +87,3 @@ pub own-as : (v w : ℕ) (ends : List ℕ) (play : List Bool) (f g : Fragment) (
     → own ≡ map (λ j. within v ends play f (2 * j)) (from 0 (length play)) → own ≡ map (λ j. within w ends play g (2 * j)) (from 0 (length play))
 own-as v w ends play f g own e q h =
     h ∙ ap (λ (n : ℕ). map (λ j. within n ends play f (2 * j)) (from 0 (length play))) e ∙ ap (λ (x : Fragment). map (λ j. within w ends play x (2 * j)) (from 0 (length play))) q
-
--- ---- for callers
-
-module _ (v : ℕ) (ends : List ℕ) (play : List Bool) (f : Fragment) (own : List Bool) (e : own ≡ map (λ j. within v ends play f (2 * j)) (from 0 (length play))) where
-  -- both darts of a channel are in the fragment, or neither is
-  within-channel : (d : ℕ) → within v ends play f d ≡ within v ends play f (2 * (d / 2))
-  within-channel d =
-      ⊎-elim (λ q. ap (within v ends play f) q)
-      (λ q.
-      same-flag (within v ends play f d) (within v ends play f (2 * (d / 2)))
-      (λ t. subst (λ (x : ℕ). T (within v ends play f x)) (ap reverse q ∙ reverse-reverse (2 * (d / 2))) (within-reverse v ends play f d t))
-      (λ t. subst (λ (x : ℕ). T (within v ends play f x)) (sym q) (within-reverse v ends play f (2 * (d / 2)) t)))
-      (channel-darts d (d / 2) refl)
-
-  pub own-within : (d : ℕ) → within v ends play f d ≡ at own (d / 2)
-  unfolding at
-  own-within d = go (decLt (d / 2) (length play))
-    where
-      read : at own (d / 2) ≡ at (map (λ j. within v ends play f (2 * j)) (from 0 (length play))) (d / 2)
-      read = ap (λ (r : List Bool). at r (d / 2)) e
-
-      go : Dec (d / 2 < length play) → within v ends play f d ≡ at own (d / 2)
-      go (yes h) =
-          within-channel d
-          ∙ sym (read ∙ getD-map-from (λ j. within v ends play f (2 * j)) 0 (length play) (d / 2) false h ∙ ap (λ (j : ℕ). within v ends play f (2 * j)) (zero-add (d / 2)))
-      go (no h) =
-          same-flag (within v ends play f d) (at own (d / 2))
-          (λ t. absurd (h (at-lt play (d / 2) (within-play v ends play f d t))))
-          (λ t. absurd (h (subst (λ (m : ℕ). d / 2 < m) (ap length e ∙ length-map-from (λ j. within v ends play f (2 * j)) 0 (length play)) (at-lt own (d / 2) t))))
-
-  pub own-function : within v ends play f ≡ (λ d. at own (d / 2))
-  own-function = fun-ext own-within

@@ -1,8 +1,8 @@
 -- Laws for those who keep the lands ls of the turns t by first dart and length, and call this crate.
--- The walk: length-from, from-append, from-at, from-last. A run, and a land from its first dart or from another, is what walking its length gives: from-run, land-from, turned-from, turned-since; so is each of many lands: lands-along, lands-are.
--- The lands that first darts and lengths stand for: along-at, land-at, length-lands, lands-cut. That they can be walked: below-of, below-all, lands-of, land-darts, darts-fewer, darts-turned.
--- The first land that fits, against the numbers of all that do (rules, `admissible`): fit-le, fit-none, none-fit, fit-first, fit-some, fit-one, one-fit; in the code's numbers told-none, told-first, told-one, told-more.
--- The last dart of a stretch and the first of a land that is listed: last-since, sought-last, first-listed. A buffer that is written and then filled: filled-of.
+-- The walk: length-from, from-append, from-last. A run, and a land from its first dart or from another, is what walking its length gives: from-run, land-from, turned-from, turned-since; so is each of many lands: lands-along, lands-are.
+-- The lands that first darts and lengths stand for: along-at, land-at, length-lands, lands-cut. That they can be walked: below-of, below-all, lands-of, land-darts, darts-fewer.
+-- The first land that fits, against the numbers of all that do (rules, `admissible`): fit-le, fit-none, none-fit, fit-first, fit-some; in the code's numbers told-none, told-first, told-one, told-more.
+-- The last dart of a stretch and the first of a land that is listed: sought-last, first-listed.
 -- Assumes nothing.
 use mathlib.Core.Path.{_≡_, refl, sym, ap, _∙_, subst}
 use mathlib.Core.Logic.{_≢_, ⊎-elim}
@@ -15,11 +15,11 @@ use native.Mathlib.Numerals.{add-one}
 use native.Mathlib.Omega.{arith}
 use borrow.Author.Tests.{lt-ltb}
 use lib.Dec.{T, ltb}
-use lib.ListN.{length, getD, take, drop, replicate, length-append, length-drop}
-use lib.Seq.{drop-cons, drop-drop, drop-append-add, take-append-seam, getD-take, length-take-le}
+use lib.ListN.{length, getD, take, drop, length-append, length-drop}
+use lib.Seq.{drop-cons, getD-take, length-take-le}
 use Rattle.rules.specs.Lists.{all}
 use Rattle.rules.specs.Terms.{missing, next, laid, visits, least, listed}
-use Rattle.rules.specs.Laying.{first, last, before, since, admissible, filled}
+use Rattle.rules.specs.Laying.{first, last, before, since, admissible}
 use Rattle.laws.proofs.Tests.{cond-cases}
 use Rattle.laws.proofs.Counts.{T-flag, is, is-self, count}
 use Rattle.laws.proofs.Lists.{All}
@@ -42,11 +42,6 @@ pub from-append : (t : List ℕ) (m n d : ℕ) → landFrom t (m + n) d ≡ land
 unfolding landFrom nextBy
 from-append t zero n d = ap (λ (k : ℕ). landFrom t k d) (zero-add n)
 from-append t (suc m) n d = ap (λ (k : ℕ). landFrom t k d) (suc-add m n) ∙ ap (λ (l : List ℕ). d ∷ l) (from-append t m n (next t d))
-
-pub from-at : (t : List ℕ) (n d : ℕ) → nextBy t n d ≡ getD (landFrom t (suc n) d) n 0
-unfolding landFrom nextBy
-from-at t zero d = refl
-from-at t (suc n) d = from-at t n (next t d)
 
 pub from-last : (t : List ℕ) (n d : ℕ) → last (landFrom t (suc n) d) ≡ nextBy t n d
 unfolding landFrom nextBy last
@@ -157,12 +152,6 @@ darts-fewer t m n d h w =
     let s = ap (λ (k : ℕ). landFrom t k d) e ∙ from-append t m (n - m) d in
     record { even = w .even; few = w .few; inside = below-append (length t) (landFrom t m d) (landFrom t (n - m) (nextBy t m d)) (subst (Below (length t)) s (w .inside)) .0 }
 
--- a land walked from another of its darts
-pub darts-turned : (t u : List ℕ) (e : ℕ) (w : List ℕ) → Land t (u ++ (e ∷ w)) → Darts t (u ++ (e ∷ w)) → Darts t (landFrom t (length (u ++ (e ∷ w))) e)
-darts-turned t u e w h p =
-    let b = below-append (length t) u (e ∷ w) (p .inside) in
-    record { even = p .even; few = p .few; inside = subst (Below (length t)) (sym (turned-from t u e w h)) (append-below (length t) (e ∷ w) u (b .1) (b .0)) }
-
 -- the lands ls, kept by their first darts and their lengths
 module _ (t fs ns : List ℕ) (n : ℕ) (ls : List (List ℕ)) (f : take n fs ≡ map first ls) (g : take n ns ≡ map length ls) (S : Sound t ls) where
   pub lands-are : lands t fs ns n ≡ ls
@@ -223,22 +212,6 @@ module _ (ends cs : List ℕ) where
       go (yes h) = absurd (not-suc-le-zero {n = 0} (omega (arith, fit-some i ls h)))
       go (no h) = omega (arith, fit-le ls)
 
-  -- behind it there is none: exactly one land is admissible
-  pub fit-one : (i : ℕ) (ls : List (List ℕ)) → firstFit ends cs ls < length ls
-      → firstFit ends cs (drop (suc (firstFit ends cs ls)) ls) ≡ length (drop (suc (firstFit ends cs ls)) ls) → length (admissible ends cs i ls) ≡ 1
-  fit-one i ls h e =
-      ap length (fit-first i ls h)
-      ∙ ap (λ (m : List ℕ). suc (length m)) (fit-none (suc (i + firstFit ends cs ls)) (drop (suc (firstFit ends cs ls)) ls) e)
-
-  pub one-fit : (i : ℕ) (ls : List (List ℕ)) → length (admissible ends cs i ls) ≡ 1
-      → (firstFit ends cs ls < length ls) × (firstFit ends cs (drop (suc (firstFit ends cs ls)) ls) ≡ length (drop (suc (firstFit ends cs ls)) ls))
-  one-fit i ls e = go (decLt (firstFit ends cs ls) (length ls))
-    where
-      go : Dec (firstFit ends cs ls < length ls)
-          → (firstFit ends cs ls < length ls) × (firstFit ends cs (drop (suc (firstFit ends cs ls)) ls) ≡ length (drop (suc (firstFit ends cs ls)) ls))
-      go (yes h) = (h, none-fit (suc (i + firstFit ends cs ls)) (drop (suc (firstFit ends cs ls)) ls) (omega (arith, ap length (fit-first i ls h))))
-      go (no h) = absurd (suc-ne-zero 0 (sym e ∙ ap length (fit-none i ls (omega (arith, fit-le ls)))))
-
 -- ---- the same, as the code tells it: a is the first of n lands that fits, and b the first behind it
 
 module _ (ends cs : List ℕ) (ls : List (List ℕ)) (n a : ℕ) (size : length ls ≡ n) (f : a ≡ 0 + firstFit ends cs (drop 0 ls)) where
@@ -288,18 +261,6 @@ turned-since ends t x l h v =
     ∙ turned-from t (before ends x l) (s .0) (s .1 .0) (subst (Land t) cut h)
     ∙ ap (λ (m : List ℕ). m ++ before ends x l) (sym e)
 
--- its last dart is the land's
-pub last-since : (ends : List ℕ) (y : ℕ) (l : List ℕ) → T (visits ends l y) → last (since ends y l) ≡ last l
-unfolding last
-last-since ends y l v =
-    let s = since-head ends y l v in
-    ap last (s .1 .1) ∙ sym (last-append (before ends y l) (s .0) (s .1 .0)) ∙ ap (λ (m : List ℕ). last (before ends y l ++ m)) (sym (s .1 .1)) ∙ ap last (before-since ends y l)
-  where
-    last-append : (u : List ℕ) (e : ℕ) (w : List ℕ) → last (u ++ (e ∷ w)) ≡ last (e ∷ w)
-    last-append [] e w = refl
-    last-append (d ∷ []) e w = refl
-    last-append (d ∷ x ∷ u) e w = last-append (x ∷ u) e w
-
 -- the dart directly before the one that is looked for
 pub sought-last : (ends : List ℕ) (p d : ℕ) (l : List ℕ) (r : Seen) → Sought ends p d l r → 1 ≤ r .steps → r .last ≡ last (before ends p l)
 unfolding last
@@ -324,19 +285,3 @@ unfolding listed
 first-listed d l h = turnTo-first (least missing (d ∷ l)) [] (d ∷ l) (smallest-in d l h)
 
 -- ---- a buffer
-
--- written and then filled up
-pub filled-of : (l old : List ℕ) (mark n : ℕ) → length l ≤ n
-    → take (length l) (l ++ drop (length l) old) ++ replicate (n - length l) mark ++ drop n (l ++ drop (length l) old) ≡ filled l mark n old
-unfolding filled
-filled-of l old mark n h =
-    ap (λ (m : List ℕ). m ++ replicate (n - length l) mark ++ drop n (l ++ drop (length l) old)) (take-append-seam l (drop (length l) old))
-    ∙ ap (λ (m : List ℕ). l ++ replicate (n - length l) mark ++ m) rest
-  where
-    add : n ≡ length l + (n - length l)
-    add = omega arith
-
-    rest : drop n (l ++ drop (length l) old) ≡ drop n old
-    rest =
-        ap (λ (k : ℕ). drop k (l ++ drop (length l) old)) add ∙ drop-append-add l (drop (length l) old) (n - length l)
-        ∙ drop-drop (n - length l) (length l) old ∙ ap (λ (k : ℕ). drop k old) (sym add)

@@ -8,7 +8,7 @@
 -- length-full: a list that has all of 0, 1, .., n − 1 is that long. count-rows, rows-..: what is kept of 0, 1, .., n − 1. length-laid, darts-counted: the darts of all lands are two for each laid channel.
 -- ports-counted: laid ports + lands = laid channels + 2. paths-counted: paths + laid ports = laid channels. tree, missing-ports: in one piece, as long as a port is missing a channel leads to it from those that are there, so that missing ports are no more than missing channels.
 -- rounds-cases: a thing of the rounds by what each round says. rounds-flat: FLAT says that all channels in play are laid. rounds-partial: PARTIAL says that n paths are laid.
--- ports-, paths-, darts-laidOut, and paths-, lands-, darts-most: so it is with every plate that is read, laid with at most n paths. flat-laid, paths-, lands-, darts-flat, partial-paths: and so where the word is FLAT, or PARTIAL.
+-- ports-, paths-, darts-laidOut, and paths-, lands-, darts-most: so it is with every plate that is read, laid with at most n paths. flat-laid, paths-flat, lands-flat: and so where the word is FLAT.
 -- Assumes nothing.
 use mathlib.Core.Path.{_≡_, refl, sym, _∙_, ap, subst}
 use mathlib.Core.Logic.{_≢_, _⊎_, inl, inr, ⊎-elim}
@@ -23,7 +23,7 @@ use Rattle.rules.specs.Lists.{from, any, keep, at, concat}
 use Rattle.rules.specs.Terms.{leaves, enters, reverse, laid}
 use Rattle.rules.specs.Ways.{inPlay}
 use Rattle.rules.specs.Refusals.{given, Plate, readPlate}
-use Rattle.rules.specs.Laying.{State, Word, FLAT, STUCK, PARTIAL, Outcome, Verdict, flat, stuck, ready, Choice, lay, allLaid, stuckOr, judge, choices, without, chosen, rounds, start, firstChannel, laying, wholePlate, laidOut, landsOfFlat}
+use Rattle.rules.specs.Laying.{State, Word, FLAT, STUCK, PARTIAL, Outcome, Verdict, flat, stuck, ready, Choice, lay, allLaid, stuckOr, judge, choices, without, chosen, rounds, laying, wholePlate, laidOut, landsOfFlat}
 use Rattle.laws.proofs.Tests.{cond-cases, eq→eqb, and-T, T-and, or-T}
 use Rattle.laws.proofs.Counts.{length-le, length-same, flag, flag-T, T-flag, is, is-self, is-cases, is-apart, is-le, count, count-append, zero-of, sum, length-sum, pigeon}
 use Rattle.laws.proofs.Lists.{any-T, T-any, all-T, keep-le, keep-T, T-keep, count-from, from-lt, from-once, length-from}
@@ -403,12 +403,3 @@ module _ (b : List ℕ) (p : Plate) (h : readPlate b ≡ given p) (n : ℕ) wher
   pub lands-flat : laidOut p n .word ≡ FLAT → length (laidOut p n .state .lands) ≡ landsOfFlat p
   unfolding landsOfFlat
   lands-flat w = omega (arith, ports-laidOut, flat-channels w, flat-ports w)
-
-  -- FLAT: 2E darts in all lands.
-  pub darts-flat : laidOut p n .word ≡ FLAT → length (concat (laidOut p n .state .lands)) ≡ 2 * p .channels
-  darts-flat w = omega (arith, darts-laidOut, flat-channels w)
-
-  -- PARTIAL: n paths.
-  pub partial-paths : laidOut p n .word ≡ PARTIAL → length (laidOut p n .state .paths) ≡ n
-  unfolding laidOut laying start
-  partial-paths w = rounds-partial (p .ports) (p .ends) (wholePlate p) n (start (p .ports) (p .ends) (wholePlate p) (firstChannel (p .ports) (p .ends) (wholePlate p))) w ∙ omega arith

@@ -177,11 +177,6 @@ unfolding seek
 seek-ge f i zero = omega arith
 seek-ge f i (suc n) = cond-cases (λ (r : ℕ). i ≤ r) (f i) (λ t. omega arith) (λ t. omega (arith, seek-ge f (suc i) n))
 
-pub seek-le : (f : ℕ → Bool) (i n : ℕ) → seek f i n ≤ i + n
-unfolding seek
-seek-le f i zero = omega arith
-seek-le f i (suc n) = cond-cases (λ (r : ℕ). r ≤ i + suc n) (f i) (λ t. omega arith) (λ t. omega (arith, seek-le f (suc i) n))
-
 -- what stands before it does not pass
 pub seek-first : (f : ℕ → Bool) (i n k : ℕ) → i ≤ k → k < seek f i n → T (not (f k))
 unfolding seek

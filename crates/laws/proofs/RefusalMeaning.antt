@@ -8,7 +8,7 @@
 --   Stay, Same                  every turn is a dart, and leaves the port of its own dart
 --   Wild, Away, Broken          of a dart: its turn is 2E or more; its turn leaves another port; of a port: its darts do not form one ring
 --   Turned ends turns           the turns permute the darts, stay at their ports, and the darts of each port are one cycle
--- refuseAt-lowest, refuseAt-none: refuseAt refuses at the lowest bad number, and passes where there is none. pieces-10, pieces-11, pieces-none: refusals 10 and 11. ring-iff: one ring. turns-12, turns-13, turns-14, turns-none: refusals 12 to 14. turned: what they leave.
+-- refuseAt-lowest, refuseAt-none: refuseAt refuses at the lowest bad number, and passes where there is none. apart-tells, cuts-tells: refusals 10 and 11. ring-iff: one ring. wild-tells, away-tells, broken-tells: refusals 12 to 14; turns-none: where none is given. turned: what they leave.
 -- Assumes nothing.
 use mathlib.Core.Path.{_≡_, refl, subst, sym, ap, _∙_}
 use mathlib.Core.Logic.{⊎-elim, _≢_, _⊎_, inl, inr, _↔_}
@@ -23,12 +23,12 @@ use lib.ListN.{length, getD}
 use Rattle.rules.specs.Lists.{from, any, all, has, seek, at}
 use Rattle.rules.specs.Terms.{leaves, dartsAt, onward, ring}
 use Rattle.rules.specs.Ways.{inPlay, reached}
-use Rattle.rules.specs.Refusals.{Answer, given, refused, Test, _>>_, passed, refuseAt, itself, apart, cuts, pieceTests, wildTurn, awayTurn, oneRing, brokenRing, turnTests}
+use Rattle.rules.specs.Refusals.{Answer, given, refused, Test, _>>_, passed, refuseAt, itself, apart, cuts, wildTurn, awayTurn, oneRing, brokenRing, turnTests}
 use Rattle.laws.proofs.Tests.{cond-cases, T-is, T-isnt, eq→eqb, neqb→ne, ne→neqb, and-T, T-and, not-and, not-not}
 use Rattle.laws.proofs.Counts.{is-self, is-cases, is-apart, is-le, count, count-head, zero-of, length-le}
 use Rattle.laws.proofs.Lists.{any-T, T-any, not-any, all-T, T-all, keep-le, keep-T, T-keep, count-from, from-lt, from-once, seek-first, seek-found, seek-finds}
-use Rattle.laws.proofs.Reaches.{whole-of, play-dart, play-reverse, Linked, linked-join, linked-back, reached-iff, but, Uncut}
-use Rattle.laws.proofs.Refusals.{refused-not, refuseAt-passed, pieces-joined, pieces-uncut}
+use Rattle.laws.proofs.Reaches.{whole-of, play-dart, play-reverse, Linked, linked-join, linked-back, reached-iff, but}
+use Rattle.laws.proofs.Refusals.{refused-not, refuseAt-passed}
 use Rattle.laws.proofs.FragmentMeaning.{Rising, rising-first, from-rises, keep-rises}
 
 -- ---- answers in a row
@@ -59,13 +59,6 @@ pub then-given-iff : {B : Type 0} (t : Test) (a : Answer B) (y : B) → ((t >> a
 then-given-iff (given u) a y = ((λ h. (refl, h)), (λ h. h .1))
 then-given-iff (refused m q) a y = ((λ h. absurd (refused-not m q y h)), (λ h. absurd (refused-not m q tt (h .0))))
 
--- a refusal that what follows never gives comes from the first test; one that the first test never gives comes from what follows
-before-rest : (t a : Test) (n p : ℕ) → (a ≡ refused n p → ⊥) → ((t >> a) ≡ refused n p) ↔ (t ≡ refused n p)
-before-rest t a n p h = ((λ k. ⊎-elim (λ e. e) (λ e. absurd (h (e .1))) (then-refused t a n p .0 k)), (λ k. then-refused t a n p .1 (inl k)))
-
-behind-first : (t a : Test) (n p : ℕ) → (t ≡ refused n p → ⊥) → ((t >> a) ≡ refused n p) ↔ ((t ≡ passed) × (a ≡ refused n p))
-behind-first t a n p h = ((λ k. ⊎-elim (λ e. absurd (h e)) (λ e. e) (then-refused t a n p .0 k)), (λ k. then-refused t a n p .1 (inr k)))
-
 -- ---- the lowest place
 
 abbrev pub LowestWhere : (ℕ → Type 0) → ℕ → ℕ → Type 0
@@ -90,9 +83,6 @@ module _ (n : ℕ) (place : ℕ → ℕ) (bad : ℕ → Bool) (m : ℕ) where
       go : Dec (seek bad 0 m < m) → n ≡ k
       go (yes l) = refused-inj n (place (seek bad 0 m)) k p (sym (refuseAt-yes l) ∙ h) .0
       go (no l) = absurd (refused-not k p tt (sym h ∙ refuseAt-no l))
-
-  refuseAt-never : (k p : ℕ) → n ≢ k → refuseAt n place bad m ≡ refused k p → ⊥
-  refuseAt-never k p ne h = ne (refuseAt-number k p h)
 
   module _ (P : ℕ → Type 0) (tells : Tells bad m P) where
     -- what the search finds is the lowest
@@ -201,41 +191,6 @@ module _ (v : ℕ) (ends : List ℕ) (play : List Bool) (size2 : length ends ≡
           let q = h .1 .0 in
           let k = h .1 in
           absurd (k .5 (linked-join ends (inPlay play) (but c) (joined t p (k .1) (k .3)) (linked-back ends (inPlay play) (but c) (play-reverse play) (ne→neqb o c (oIn .1)) (joined t q (k .2) (k .4)))))
-
-  -- where 10 is not given, every port is linked to port 0
-  linked-all : (refuseAt 10 itself (apart v ends play) v ≡ passed) ↔ ((p : ℕ) → p < v → Linked ends (inPlay play) (λ q. true) p 0)
-  unfolding apart
-  linked-all = (
-    (λ h p l. reached-means (λ q. true) 0 p (omega arith) .0 (not-not (at (reached v ends play (λ q. true) 0) p) (refuseAt-passed 10 itself (apart v ends play) v h p l))),
-    (λ h. refuseAt-none 10 itself (apart v ends play) v (Apart ends play) apart-tells .1 (λ p l k. k (h p l))),
-  )
-
-  -- 10: the lowest port from which no way leads to port 0.
-  pub pieces-10 : (p : ℕ) → (pieceTests v ends play ≡ refused 10 p) ↔ LowestWhere (Apart ends play) v p
-  unfolding pieceTests
-  pieces-10 p =
-      let first = before-rest (refuseAt 10 itself (apart v ends play) v) (refuseAt 11 itself (cuts v ends play) v) 10 p (refuseAt-never 11 itself (cuts v ends play) v 10 p (omega arith)) in
-      let here = refuseAt-itself 10 (apart v ends play) v (Apart ends play) apart-tells p in
-      ((λ h. here .0 (first .0 h)), (λ h. first .1 (here .1 h)))
-
-  -- 11: every port is linked to port 0, and it is the lowest port without which two others are not linked.
-  pub pieces-11 : (c : ℕ) → (pieceTests v ends play ≡ refused 11 c) ↔ (((p : ℕ) → p < v → Linked ends (inPlay play) (λ q. true) p 0) × LowestWhere (Cuts v ends play) v c)
-  unfolding pieceTests
-  pieces-11 c =
-      let next = behind-first (refuseAt 10 itself (apart v ends play) v) (refuseAt 11 itself (cuts v ends play) v) 11 c (refuseAt-never 10 itself (apart v ends play) v 11 c (omega arith)) in
-      let here = refuseAt-itself 11 (cuts v ends play) v (Cuts v ends play) cuts-tells c in
-      ((λ h. let k = next .0 h in (linked-all .0 (k .0), here .0 (k .1))), (λ h. next .1 (linked-all .1 (h .0), here .1 (h .1))))
-
-  -- Neither: every port is linked to port 0, and no port cuts.
-  pub pieces-none : (pieceTests v ends play ≡ passed) ↔ (((p : ℕ) → p < v → Linked ends (inPlay play) (λ q. true) p 0) × Uncut v ends play)
-  unfolding pieceTests
-  pieces-none = (
-    (λ h. (pieces-joined v ends play h size2 inn, pieces-uncut v ends play h size2 inn two)),
-    (λ h. then-given-iff (refuseAt 10 itself (apart v ends play) v) (refuseAt 11 itself (cuts v ends play) v) tt .1 (
-      linked-all .1 (h .0),
-      refuseAt-none 11 itself (cuts v ends play) v (Cuts v ends play) cuts-tells .1 (λ c l k. k .1 .5 (h .1 c (k .0) (k .1 .0) l (k .1 .1) (k .1 .2) (k .1 .3) (k .1 .4))),
-    )),
-  )
 
 -- ---- following the turns
 
@@ -509,43 +464,6 @@ module _ (v : ℕ) (ends t : List ℕ) where
 
   abbrev test-14 : Test
   test-14 = refuseAt 14 itself (brokenRing ends t) v
-
-  -- after 13, neither 12 nor 13
-  rest-not : (k p : ℕ) → 13 ≢ k → 14 ≢ k → (test-13 >> test-14) ≡ refused k p → ⊥
-  rest-not k p a b h =
-      ⊎-elim (refuseAt-never 13 itself (awayTurn ends t) (length ends) k p a) (λ e. refuseAt-never 14 itself (brokenRing ends t) v k p b (e .1)) (then-refused test-13 test-14 k p .0 h)
-
-  -- 12: the lowest dart with a turn of 2E or more.
-  pub turns-12 : (d : ℕ) → (turnTests v ends t ≡ refused 12 d) ↔ LowestWhere (Wild ends t) (length ends) d
-  unfolding turnTests
-  turns-12 d =
-      let first = before-rest test-12 (test-13 >> test-14) 12 d (rest-not 12 d (omega arith) (omega arith)) in
-      let here = refuseAt-itself 12 (wildTurn ends t) (length ends) (Wild ends t) wild-tells d in
-      ((λ h. here .0 (first .0 h)), (λ h. first .1 (here .1 h)))
-
-  -- 13: no turn is 2E or more, and it is the lowest dart with a turn that leaves another port.
-  pub turns-13 : (d : ℕ) → (turnTests v ends t ≡ refused 13 d) ↔ (Stay ends t × LowestWhere (Away ends t) (length ends) d)
-  unfolding turnTests
-  turns-13 d =
-      let next = behind-first test-12 (test-13 >> test-14) 13 d (refuseAt-never 12 itself (wildTurn ends t) (length ends) 13 d (omega arith)) in
-      let first = before-rest test-13 test-14 13 d (refuseAt-never 14 itself (brokenRing ends t) v 13 d (omega arith)) in
-      let here = refuseAt-itself 13 (awayTurn ends t) (length ends) (Away ends t) away-tells d in
-      ((λ h. let k = next .0 h in (pass-12 .0 (k .0), here .0 (first .0 (k .1)))), (λ h. next .1 (pass-12 .1 (h .0), first .1 (here .1 (h .1)))))
-
-  -- 14: every turn is a dart that leaves the same port, and it is the lowest port whose darts do not form one ring.
-  pub turns-14 : (p : ℕ) → (turnTests v ends t ≡ refused 14 p) ↔ (Stay ends t × Same ends t × LowestWhere (Broken ends t) v p)
-  unfolding turnTests
-  turns-14 p =
-      let next = behind-first test-12 (test-13 >> test-14) 14 p (refuseAt-never 12 itself (wildTurn ends t) (length ends) 14 p (omega arith)) in
-      let last = behind-first test-13 test-14 14 p (refuseAt-never 13 itself (awayTurn ends t) (length ends) 14 p (omega arith)) in (
-        (λ h.
-            let k = next .0 h in
-            let j = last .0 (k .1) in
-            let stay = pass-12 .0 (k .0) in
-            let same = pass-13 .0 (j .0) in
-            (stay, same, refuseAt-itself 14 (brokenRing ends t) v (Broken ends t) (broken-tells stay same) p .0 (j .1))),
-        (λ h. next .1 (pass-12 .1 (h .0), last .1 (pass-13 .1 (h .1), refuseAt-itself 14 (brokenRing ends t) v (Broken ends t) (broken-tells (h .0) (h .1)) p .1 (h .2)))),
-      )
 
   -- None of them: every turn is a dart that leaves the same port, and the darts of each port form one ring.
   pub turns-none : (turnTests v ends t ≡ passed) ↔ (Stay ends t × Same ends t × ((p : ℕ) → p < v → Ring ends t p))

@@ -12,7 +12,7 @@
 --   Means np ps on s v          what the judgement v of s says
 --   Ended np ps on n o          all of document 01 about the word and the name of the outcome o, n paths being allowed
 --   fs, pick                    of a state: its fragments, and the choice of a fragment
--- rounds-say: the word and the name are what the last state's judgement gives. laying-next, laying-next-state: n paths allowed against n + 1. choices-iff, without-iff: the choices against the fragments. judge-means: what a judgement means. lay-grows, first-laid: what is laid stays laid. kept-fewer: there are fewer paths than channels.
+-- rounds-say: the word and the name are what the last state's judgement gives. laying-next, laying-next-state: n paths allowed against n + 1. judge-means: what a judgement means. lay-grows, first-laid: what is laid stays laid. kept-fewer: there are fewer paths than channels.
 -- laying-ended, laying-whole: how laying ends, and that as many paths as channels always end it. ended-laidOut, whole-laidOut: the same of every plate that is read.
 -- Assumes nothing.
 use mathlib.Core.Path.{_≡_, refl, subst, subst₂, sym, _∙_, ap}
@@ -298,36 +298,6 @@ module _ (np : ℕ) (ps : List ℕ) (on : List Bool) (G : Layable np ps on) (s :
     (λ t. let r = one-of (pick f .fits) t in (r .0, fits-iff f h (r .0) .0 (r .1), (λ j a. r .2 j (fits-iff f h j .1 a)))),
     (λ o. of-one (pick f .fits) (fits-rise f) (o .0) (fits-iff f h (o .0) .1 (o .1)) (λ j k. o .2 j (fits-iff f h j .0 k))),
   )
-
-  -- The choices are those of the fragments,
-  pub choices-iff : (c : Choice) → In c (choices np ps on s) ↔ ((f : Fragment) × IsFragment np ps on s f × (c ≡ pick f))
-  unfolding choices
-  choices-iff c = (
-    (λ h. let r = from-map fs h in (r .0, fragment-iff np ps on G s K (r .0) .0 (r .1), r .2)),
-    (λ h. to-map fs (h .0) (fragment-iff np ps on G s K (h .0) .1 (h .1)) (h .2)),
-  )
-    where
-      from-map : (l : List Fragment) → In c (map pick l) → (f : Fragment) × In f l × (c ≡ pick f)
-      from-map [] h = absurd h
-      from-map (x ∷ l) h = ⊎-elim (λ e. (x, inl refl, e)) (λ k. let r = from-map l k in (r .0, inr (r .1), r .2)) h
-
-      to-map : (l : List Fragment) (f : Fragment) → In f l → c ≡ pick f → In c (map pick l)
-      to-map [] f h e = absurd h
-      to-map (x ∷ l) f h e = ⊎-elim (λ q. inl (e ∙ ap pick q)) (λ k. inr (to-map l f k e)) h
-
-  -- and one without admissible land is that of a fragment that no land is admissible for.
-  pub without-iff : ((c : Choice) × In c (choices np ps on s) × T (without c)) ↔ ((f : Fragment) × IsFragment np ps on s f × Barred np ps on s f)
-  without-iff = (
-    (λ h. let r = choices-iff (h .0) .0 (h .1) in (r .0, r .1, without-barred (r .0) (r .1) (subst (λ (c : Choice). T (without c)) (r .2) (h .2)))),
-    (λ h. (pick (h .0), choices-iff (pick (h .0)) .1 (h .0, h .1, refl), barred-without (h .0) (h .1) (h .2))),
-  )
-    where
-      barred-without : (f : Fragment) → IsFragment np ps on s f → Barred np ps on s f → T (without (pick f))
-      barred-without f i b = go (without (pick f)) refl
-        where
-          go : (w : Bool) → without (pick f) ≡ w → T (without (pick f))
-          go true e = subst (λ (w : Bool). T w) (sym e) tt
-          go false e = let a = not-without f i (subst (λ (w : Bool). T (not w)) (sym e) tt) in absurd (b (a .0) (a .1))
 
   -- ---- the lowest-named
 

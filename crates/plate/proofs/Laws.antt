@@ -3,7 +3,7 @@
 -- number-.., bytes-numbers: one-byte numbers are a part of the file. length-plate, length-sheet: the lengths 8 + 2E and 8 + 6E. sheet-..: a sheet's V, E and ports stand where a plate file's do.
 -- ends-part: the ports of the pairs are a part of the file. plate-size, sheet-size: the length of a file that passed tests 1 to 9 (laws, `Tested`).
 -- test-passed, test-refused: a test of the code that was passed or refused. known, unread: a reading that gave a plate or a refusal. pairs-part, part-is, pairs-ends, pairs-length, pairs-none: the pairs of each.
--- length-copied, copied-front, copied-pairs: a copy is as long as what it was copied into, and begins with what was copied. refusal-unique, test-unique, reading-unique: what an answer stands for determines it.
+-- length-copied, copied-front: a copy is as long as what it was copied into, and begins with what was copied. refusal-unique, test-unique, reading-unique: what an answer stands for determines it.
 -- Assumes nothing.
 use mathlib.Core.Path.{_≡_, refl, sym, ap, _∙_}
 use mathlib.Core.Bool.{true}
@@ -190,9 +190,6 @@ copied-front from to n e h =
 pub length-noEnds : length noEnds ≡ mostDarts
 unfolding noEnds
 length-noEnds = length-replicate {A = ℕ} mostDarts 0
-
-pub copied-pairs : (b : List ℕ) (p : Plate) → Known b p → take (2 * p .channels) (copied (pairsOf b) noEnds) ≡ endsIn plateFile b
-copied-pairs b p k = copied-front (pairsOf b) noEnds (2 * p .channels) (pairs-length b p k) (omega (arith, k .most-channels, length-noEnds)) ∙ pairs-ends b p k
 
 -- ---- two results that meet a promise are equal
 

@@ -1,23 +1,22 @@
 -- What a caller reads off a flood.
 -- length-joined, at-joined: marks joined are as many; a port has a mark afterwards where it had one or is around p. around-as: only which ports have a mark counts, so that the ports around p are those reached through the ports without one.
--- around-none, around-only: with no mark, and with the mark of port c alone, they are those of refusals 10 and 11. around-start, around-fresh: p is around p, and no port around p had a mark.
+-- around-none, around-only: with no mark, and with the mark of port c alone, they are those of refusals 10 and 11.
 -- Assumes nothing.
-use mathlib.Core.Path.{_≡_, refl, sym, ap, _∙_, fun-ext}
+use mathlib.Core.Path.{_≡_, sym, ap, _∙_, fun-ext}
 use mathlib.Core.Logic.{⊎-elim}
 use mathlib.Core.Bool.{Bool, true, false, not, _||_}
-use mathlib.Core.List.{List, []}
+use mathlib.Core.List.{List}
 use Prim.Native.Nat.{ℕ, _<_}
 use native.Mathlib.Nat.{zero-add}
-use lib.Dec.{T, eqb, T-not}
+use lib.Dec.{eqb}
 use lib.ListN.{length, replicate, length-replicate}
 use lib.Seq.{getD-set-other}
 use Rattle.rules.specs.Lists.{at}
-use Rattle.rules.specs.Ways.{only, reached, inPlay}
+use Rattle.rules.specs.Ways.{only, reached}
 use Rattle.laws.proofs.Tests.{T-is, T-isnt, eqb-yes, eqb-no}
 use Rattle.laws.proofs.Counts.{is-cases, is-apart}
 use Rattle.laws.proofs.Sets.{at-none, only-self, length-only}
-use Rattle.laws.proofs.Reaches.{way-start, reached-iff, whole-of, play-dart}
-use Rattle.reach.specs.Floods.{joined, around, Sized}
+use Rattle.reach.specs.Floods.{joined, around}
 use Rattle.laws.proofs.Seeking.{getD-map-from, length-map-from}
 
 pub length-joined : (s r : List Bool) → length (joined s r) ≡ length s
@@ -49,19 +48,3 @@ only-at v c q h =
 pub around-only : (v c : ℕ) (ends : List ℕ) (play : List Bool) (p : ℕ) → c < v → around ends play (only v c) p ≡ reached v ends play (λ q. not (eqb q c)) p
 around-only v c ends play p h =
     around-as ends play (only v c) p (λ q. not (eqb q c)) (λ q. ap not (only-at v c q h)) ∙ ap (λ (n : ℕ). reached n ends play (λ q. not (eqb q c)) p) (length-only v c)
-
--- ---- the ports around p
-
-module _ (ends : List ℕ) (play marks : List Bool) (p : ℕ) (sized : Sized (length marks) ends play) (inside : p < length marks) (clear : at marks p ≡ false) where
-  pub around-start : T (at (around ends play marks p) p)
-  unfolding reached
-  around-start =
-      reached-iff (length marks) ends (inPlay play) (λ q. not (at marks q)) (whole-of ends (inPlay play) (play-dart ends play (sized .channels)))
-      (λ d t. sized .ports d (play-dart ends play (sized .channels) d t)) p inside p .1 ([], refl)
-
-  pub around-fresh : (z : ℕ) → T (at (around ends play marks p) z) → at marks z ≡ false
-  unfolding reached
-  around-fresh z t =
-      let w = reached-iff (length marks) ends (inPlay play) (λ q. not (at marks q)) (whole-of ends (inPlay play) (play-dart ends play (sized .channels)))
-      (λ d k. sized .ports d (play-dart ends play (sized .channels) d k)) p inside z .0 t in
-      T-isnt (at marks z) (T-not (at marks z) (way-start ends (inPlay play) (λ q. not (at marks q)) z (w .0) p (w .1) (rw clear tt)))

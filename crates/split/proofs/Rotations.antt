@@ -4,13 +4,10 @@
 -- Assumes nothing.
 use mathlib.Core.Path.{_≡_, refl, sym, ap, _∙_, subst}
 use mathlib.Core.Logic.{⊎-elim}
-use mathlib.Core.Bool.{Bool, true, false, cond}
 use mathlib.Core.List.{List, [], _∷_, _++_}
 use Prim.Native.Nat.{ℕ, zero, suc, _+_, _%_, _<_, _≤_}
 use native.Mathlib.Nat.{not-suc-le-zero}
 use native.Mathlib.Omega.{arith}
-use borrow.Author.Tests.{ltb-true, ltb-false}
-use lib.Dec.{ltb}
 use lib.ListN.{length, getD}
 use Rattle.rules.specs.Terms.{missing, laid, next, least, listed}
 use Rattle.rules.specs.Laying.{first}
@@ -22,14 +19,6 @@ use Rattle.land.specs.Walks.{landFrom, Darts}
 use Rattle.land.proofs.Laws.{turned-from, below-of, first-listed}
 
 -- ---- the smallest number of a list
-
--- the lower of two numbers is neither above the one nor above the other
-lower-le : (d m : ℕ) → (cond (ltb d m) d m ≤ d) × (cond (ltb d m) d m ≤ m)
-lower-le d m = go (ltb d m) refl
-  where
-    go : (b : Bool) → ltb d m ≡ b → (cond b d m ≤ d) × (cond b d m ≤ m)
-    go true e = (omega arith, omega (arith, ltb-true d m e))
-    go false e = (omega (arith, ltb-false d m e), omega arith)
 
 least-at-most : (m : ℕ) (l r : List ℕ) → ((z : ℕ) → count z l ≡ count z r) → least m l ≤ least m r
 least-at-most m l r same =

@@ -1,7 +1,7 @@
 -- How many bytes lines have, where every number printed is below 100,000.
 --   most                  a number below it has at most five digits
 --   degrees ends i n      how many darts leave the n ports from i on, together
--- below-map, below-weaken: lists of small numbers. fields-few, line-few: a field has at most 6 bytes. paths-few, lands-few, ports-few: the lines of paths, lands and ports. degrees-few: no dart leaves two ports.
+-- below-map: lists of small numbers. fields-few, line-few: a field has at most 6 bytes. paths-few, lands-few, ports-few: the lines of paths, lands and ports. degrees-few: no dart leaves two ports.
 -- Assumes nothing.
 use mathlib.Core.Path.{_≡_, refl, ap}
 use mathlib.Core.Bool.{Bool, true, false, cond}
@@ -25,10 +25,6 @@ use Rattle.text.proofs.Laid.{dartsAll}
 
 abbrev pub most : ℕ
 most = 100000
-
-pub below-weaken : (m n : ℕ) (l : List ℕ) → m ≤ n → Below m l → Below n l
-below-weaken m n [] h b = tt
-below-weaken m n (x ∷ l) h b = (omega (arith, b .0), below-weaken m n l h (b .1))
 
 pub below-map : (n : ℕ) (f : ℕ → ℕ) → ((x : ℕ) → f x < n) → (l : List ℕ) → Below n (map f l)
 below-map n f h [] = tt

@@ -10,7 +10,7 @@ use native.Mathlib.Nat.{not-suc-le-zero}
 use native.Mathlib.Omega.{arith}
 use borrow.Author.Tests.{le-leb, lt-leb}
 use lib.Dec.{leb, ltb, ltb→lt, nltb→le}
-use lib.ListN.{length, getD, set, drop, length-set, length-append, length-drop, length-replicate, drop-of-length-le, replicate, length-map}
+use lib.ListN.{length, getD, set, drop, length-set, length-append, length-drop, length-replicate, drop-of-length-le, replicate}
 use lib.Seq.{set-getD, map-set-same}
 use Rattle.rules.specs.Lists.{at}
 use Rattle.rules.specs.Terms.{missing}
@@ -31,10 +31,6 @@ getD-map : {A B : Type 0} (f : A → B) (l : List A) (i : ℕ) (a : A) (b : B) �
 getD-map f [] i a b h = absurd (not-suc-le-zero h)
 getD-map f (y ∷ l) zero a b h = refl
 getD-map f (y ∷ l) (suc i) a b h = getD-map f l i a b (omega arith)
-
-pub length-within : (far : List ℕ) (j : ℕ) → length (within far j) ≡ length far
-unfolding within
-length-within far j = length-map far (λ n. leb n j)
 
 pub at-within : (far : List ℕ) (j p : ℕ) → p < length far → at (within far j) p ≡ leb (getD far p 0) j
 unfolding at within

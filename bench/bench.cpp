@@ -5,6 +5,8 @@
 #include <chrono>
 #include <cstdio>
 #include <cstdlib>
+#include <functional>
+#include <initializer_list>
 #include <random>
 #include <string>
 #include <utility>
@@ -86,22 +88,36 @@ static Bytes file_of(int v, const Pairs &pairs) {
 
 static double budget = 0.05;
 
-template <class F>
-static double micros(F f) {
+struct Timed {
+  std::function<void()> call;
+  double micros = 1e18;
+  long calls = 0;
+};
+
+// The calls take turns, five times, so that a processor that changes its pace does so for all of them.
+static void clock_all(std::initializer_list<Timed *> all) {
   using clock = std::chrono::steady_clock;
-  double best = 1e18;
-  for (int round = 0; round < 5; round++) {
-    long calls = 0;
-    auto begin = clock::now();
-    double spent = 0;
-    do {
-      f();
-      calls++;
-      spent = std::chrono::duration<double>(clock::now() - begin).count();
-    } while (spent < budget);
-    best = std::min(best, spent / double(calls) * 1e6);
-  }
-  return best;
+  for (int round = 0; round < 5; round++)
+    for (Timed *t : all) {
+      long calls = 0;
+      auto begin = clock::now();
+      double spent = 0;
+      do {
+        t->call();
+        calls++;
+        spent = std::chrono::duration<double>(clock::now() - begin).count();
+      } while (spent < budget);
+      t->micros = std::min(t->micros, spent / double(calls) * 1e6);
+      t->calls += calls;
+    }
+}
+
+static void put(double micros) { std::printf(micros < 10 ? " %.1f |" : " %.0f |", micros); }
+
+static void put(const Timed &ours, const Timed &other) {
+  put(ours.micros);
+  put(other.micros);
+  std::printf(" %.2f |", ours.micros / other.micros);
 }
 
 static bool boost_embeds(int v, const Pairs &pairs) {
@@ -131,24 +147,28 @@ static void run(const std::string &kind, int v, const Pairs &pairs) {
   if (answer[0] != 0 || answer[1] != uint64_t(plain.word) || answer[2] != uint64_t(plain.paths)) fail("the answers");
   if (!std::equal(turns.begin(), turns.end(), plain.turns.begin())) fail("the turns");
   if (boost_embeds(v, pairs) != flat) fail("Boost");
-  double ours = micros(lay), plains = micros([&] { plain_lay(file.data(), file.size(), UINT32_MAX); });
-  double write = micros([&] { plate_write_sheet(file.data(), file.size(), sheet.data(), sheet.size()); });
-  double boosts = micros([&] { boost_embeds(v, pairs); });
-  std::printf("| %s | %d | %zu | %s | %.0f | %.0f | %.2f | %.0f | %.0f | %.2f |", kind.c_str(), v, e, flat ? "FLAT" : "STUCK", ours, plains, ours / plains, write, boosts, write / boosts);
+  Timed ours{lay}, plains{[&] { plain_lay(file.data(), file.size(), UINT32_MAX); }};
+  Timed write{[&] { plate_write_sheet(file.data(), file.size(), sheet.data(), sheet.size()); }}, boosts{[&] { boost_embeds(v, pairs); }};
+  clock_all({&ours, &plains, &write, &boosts});
+  std::printf("| %s | %d | %zu | %s | %ld |", kind.c_str(), v, e, flat ? "FLAT" : "STUCK", ours.calls);
+  put(ours, plains);
+  put(write, boosts);
   if (!flat) {
     std::printf(" | | |\n");
     return;
   }
   if (plate_judge_sheet(sheet.data(), sheet_length) != PLATE_FLAT || !plain_judge(sheet.data(), sheet_length)) fail("the judges");
-  double judge = micros([&] { plate_judge_sheet(sheet.data(), sheet_length); }), judges = micros([&] { plain_judge(sheet.data(), sheet_length); });
-  std::printf(" %.0f | %.0f | %.2f |\n", judge, judges, judge / judges);
+  Timed judge{[&] { plate_judge_sheet(sheet.data(), sheet_length); }}, judges{[&] { plain_judge(sheet.data(), sheet_length); }};
+  clock_all({&judge, &judges});
+  put(judge, judges);
+  std::printf("\n");
 }
 
 int main(int argc, char **argv) {
   if (argc > 1) budget = std::atof(argv[1]) / 1000;
-  std::printf("Microseconds a call, the least of 5 rounds of %.0f ms each.\n\n", budget * 1000);
-  std::printf("| plate | ports | channels | answer | lay | plain C++ | lay / plain | write a sheet | Boost | write / Boost | judge | plain C++ | judge / plain |\n");
-  std::printf("|---|--:|--:|---|--:|--:|--:|--:|--:|--:|--:|--:|--:|\n");
+  std::printf("Microseconds a call, the least of 5 rounds of %.0f ms each, in which the calls of a line take turns; `repeats`: how often the plate was laid.\n\n", budget * 1000);
+  std::printf("| plate | ports | channels | answer | repeats | lay | plain C++ | lay / plain | write a sheet | Boost | write / Boost | judge | plain C++ | judge / plain |\n");
+  std::printf("|---|--:|--:|---|--:|--:|--:|--:|--:|--:|--:|--:|--:|--:|\n");
   for (int v : {10, 50, 100, 200}) {
     run("maximal planar", v, maximal(v));
     run("thin", v, thin(v));

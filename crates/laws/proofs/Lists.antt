@@ -1,7 +1,7 @@
 -- Laws of the list definitions (rules, "Lists"): what a test over a list says of the elements, and what a search finds.
 --   All P l         P holds of every element of l
 -- any-T, T-any, not-any, all-T, not-all, keep-T, T-keep: a test over a list of numbers against the numbers in it. count-from, from-lt, from-once: i, i + 1, .. are what they say.
--- all-.., keep-all, keep-none: what holds of every element. two: of two numbers in a list, to its first two. seek-first, seek-found, seek-finds: a search gives the lowest number that passes. has-count, count-has, place-count, place-of: what stands in a list, and where. part-length, take-replicate, drop-head, first-two: parts of a list.
+-- all-.., keep-all, keep-none: what holds of every element. two: of two numbers in a list, to its first two. seek-first, seek-found, seek-finds: a search gives the lowest number that passes. has-count, count-has, place-count, place-of: what stands in a list, and where. part-length, take-replicate, drop-head, first-two: parts of a list. replicate-at: one thing again and again.
 -- Assumes nothing.
 use mathlib.Core.Path.{subst, sym, ap, _≡_, refl, _∙_}
 use mathlib.Core.Logic.{⊎-elim, _≢_}
@@ -254,3 +254,8 @@ pub first-two : (l : List ℕ) (a b : ℕ) → 2 ≤ length l → take 2 (set (s
 first-two [] a b h = absurd (not-suc-le-zero h)
 first-two (x ∷ []) a b h = absurd (not-suc-le-zero {n = 0} (omega arith))
 first-two (x ∷ y ∷ l) a b h = refl
+
+pub replicate-at : {A : Type 0} (n i : ℕ) (a : A) → getD (replicate n a) i a ≡ a
+replicate-at zero i a = refl
+replicate-at (suc n) zero a = refl
+replicate-at (suc n) (suc i) a = replicate-at n i a

@@ -17,6 +17,7 @@ use lib.Seq.{getD-set-same, getD-set-other}
 use Rattle.rules.specs.Lists.{at}
 use Rattle.rules.specs.Ways.{only, iter}
 use Rattle.laws.proofs.Counts.{flag}
+use Rattle.laws.proofs.Lists.{replicate-at}
 
 -- ---- membership
 
@@ -48,9 +49,7 @@ at-set-from s i p h = go (ℕ-discrete p i)
 
 pub at-none : (n q : ℕ) → T (at (replicate n false) q) → ⊥
 unfolding at
-at-none zero q t = t
-at-none (suc n) zero t = t
-at-none (suc n) (suc q) t = at-none n q t
+at-none n q t = subst T (replicate-at n q false) t
 
 pub only-is : (np y p : ℕ) → T (at (only np y) p) → p ≡ y
 only-is np y p t = ⊎-elim (λ e. e) (λ k. absurd (at-none np p k)) (at-set-from (replicate np false) y p t)

@@ -13,11 +13,12 @@ use lib.ListN.{length, replicate, length-replicate}
 use lib.Seq.{getD-set-other}
 use Rattle.rules.specs.Lists.{at}
 use Rattle.rules.specs.Ways.{only, reached}
-use Rattle.laws.proofs.Tests.{T-is, T-isnt, eqb-yes, eqb-no}
+use Rattle.laws.proofs.Tests.{T-is, eqb-yes, eqb-no}
 use Rattle.laws.proofs.Counts.{is-cases, is-apart}
-use Rattle.laws.proofs.Sets.{at-none, only-self, length-only}
+use Rattle.laws.proofs.Sets.{only-self, length-only}
 use Rattle.reach.specs.Floods.{joined, around}
 use Rattle.laws.proofs.Seeking.{getD-map-from, length-map-from}
+use Rattle.laws.proofs.Lists.{replicate-at}
 
 pub length-joined : (s r : List Bool) → length (joined s r) ≡ length s
 unfolding joined
@@ -33,7 +34,8 @@ pub around-as : (ends : List ℕ) (play marks : List Bool) (p : ℕ) (free : ℕ
 around-as ends play marks p free h = ap (λ (f : ℕ → Bool). reached (length marks) ends play f p) (fun-ext h)
 
 pub none-at : (v q : ℕ) → at (replicate v false) q ≡ false
-none-at v q = T-isnt (at (replicate v false) q) (at-none v q)
+unfolding at
+none-at v q = replicate-at v q false
 
 pub around-none : (v : ℕ) (ends : List ℕ) (play : List Bool) (p : ℕ) → around ends play (replicate v false) p ≡ reached v ends play (λ q. true) p
 around-none v ends play p =

@@ -5,14 +5,14 @@
 use mathlib.Core.Path.{_≡_, refl, sym, ap, _∙_, subst}
 use mathlib.Core.Logic.{_≢_, _⊎_, ⊎-elim}
 use mathlib.Core.Bool.{Bool}
-use mathlib.Core.List.{List, [], _∷_, _++_, append-nil}
+use mathlib.Core.List.{List, [], _∷_, _++_}
 use Prim.Native.Nat.{ℕ, zero, suc, _+_, _-_, _*_, _<_, _≤_}
 use native.Mathlib.Omega.{arith}
 use lib.ListN.{length, getD, take, drop, replicate}
-use lib.Seq.{drop-length}
 use Rattle.rules.specs.Laying.{State, Choice, Verdict, flat, stuck, ready, FLAT, STUCK, PARTIAL, Outcome, choices, lay, judge, rounds, firstChannel, start, firstCycle, laying}
 use Rattle.laws.proofs.Choices.{Open, Sensible, Ready as Go, choices-sensible, judge-ready}
 use Rattle.laws.proofs.Rounds.{Kept}
+use Rattle.numbers.proofs.Filling.{fill-whole}
 use Rattle.reach.specs.Neighbours.{firstDarts, moreDarts}
 use Rattle.reach.specs.Floods.{Tables}
 use Rattle.land.specs.Walks.{lands, Walkable}
@@ -281,9 +281,7 @@ module _ (v : ℕ) (ends : List ℕ) (play : List Bool) (n : ℕ) (L : Plan v en
   -- the numbers are all 0
   cleared : (m : ℕ) (t : List ℕ) (ls : List (List ℕ)) (bars bars′ : List ℕ) → length bars ≡ length ends → bars′ ≡ take 0 bars ++ replicate (length bars - 0) 0 ++ drop (length bars) bars → Bars m ends play t ls bars′
   cleared m t ls bars bars′ a b =
-      let all : length bars - 0 ≡ length bars = omega arith in
-      subst (Bars m ends play t ls) (sym (b ∙ ap (λ (l : List ℕ). replicate (length bars - 0) 0 ++ l) (drop-length bars) ∙ append-nil (replicate (length bars - 0) 0) ∙ ap (λ (k : ℕ). replicate k 0) all))
-      (bars-none m ends play t ls (length bars) a)
+      subst (Bars m ends play t ls) (sym (b ∙ fill-whole bars (length bars) 0 refl)) (bars-none m ends play t ls (length bars) a)
 
   pub ask-rounds : (contacts′ : List ℕ) (inside′ own′ : List Bool) → length contacts′ ≡ length contacts → length inside′ ≡ length inside → length own′ ≡ length own → (t fs ns st : List ℕ) (place : ℕ)
       → Standing (length first) ends play (start (length first) ends play (firstChannel (length first) ends play)) t fs ns st 2 place

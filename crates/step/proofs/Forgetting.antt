@@ -15,7 +15,7 @@ use lib.Dec.{T}
 use lib.ListN.{length, getD, set, length-set, List·getD-eq-default}
 use lib.Seq.{getD-set-same, getD-set-other, ext-getD}
 use Rattle.rules.specs.Lists.{from, at}
-use Rattle.rules.specs.Laying.{State, Fragment, Choice, within, fragmentAt, lay}
+use Rattle.rules.specs.Laying.{State, Fragment, Choice, within, fragmentAt, contactsOf, lay}
 use Rattle.laws.proofs.Counts.{is-cases, is-apart}
 use Rattle.laws.proofs.Sets.{at-lt}
 use Rattle.laws.proofs.Runs.{channel-of}
@@ -23,7 +23,9 @@ use Rattle.laws.proofs.Rounds.{Layable}
 use Rattle.laws.proofs.Keeping.{Misses, misses-stays}
 use Rattle.laws.proofs.Seeking.{length-map-from, getD-map-from}
 use Rattle.land.specs.Walks.{lands}
-use Rattle.fragment.specs.Bars.{Bars}
+use Rattle.fragment.specs.Rounds.{laidBy}
+use Rattle.fragment.specs.Bars.{Passed, Bars}
+use Rattle.fragment.proofs.Barring.{passed-as, passed-none}
 use Rattle.split.proofs.Laws.{holds-lands}
 use Rattle.step.specs.Rooms.{forgotten, Standing, Chosen}
 use Rattle.step.proofs.Same.{own-is}
@@ -117,24 +119,24 @@ module _ (v : ℕ) (ends : List ℕ) (play : List Bool) (G : Layable v ends play
   still : (k i : ℕ) → T (at play k) → at own k ≡ false → i < length (s .lands) → Misses v ends play (s .turns) (s .lands) k i → Misses v ends play (z .turns) (z .lands) k i
   still k i o e b h = misses-stays v ends play G s (C .stands .kept) c (C .sensible) (C .opens) k o (sym (flagged k o) ∙ e) i b h
 
-  low-stays : (k i : ℕ) → T (at play k) → i < getD (forgotten own bars) (2 * k) 0 → Misses v ends play (z .turns) (z .lands) k i
-  low-stays k i o h = go (at own k) refl
-    where
-      go : (b : Bool) → at own k ≡ b → Misses v ends play (z .turns) (z .lands) k i
-      go true e = absurd (not-suc-le-zero {n = 0} (omega (arith, h, forgotten-own own bars (2 * k) (places k o .0) (ap (at own) (channel-of k) ∙ e))))
-      go false e = still k i o e (omega (arith, h, forgotten-le own bars (2 * k), known .most (2 * k))) (known .low k i o (omega (arith, h, forgotten-le own bars (2 * k))))
-
-  between-stays : (k i : ℕ) → T (at play k) → getD (forgotten own bars) (2 * k) 0 < i → i < getD (forgotten own bars) (2 * k + 1) 0 → Misses v ends play (z .turns) (z .lands) k i
-  between-stays k i o l h = go (at own k) refl
+  told-stays : (k : ℕ) → T (at play k)
+      → Passed ends (contactsOf v ends play (laidBy v ends (z .turns)) (fragmentAt v ends play (laidBy v ends (z .turns)) k)) (z .lands) (getD (forgotten own bars) (2 * k) 0) (getD (forgotten own bars) (2 * k + 1) 0)
+  told-stays k o = go (at own k) refl
     where
       half : (2 * k + 1) / 2 ≡ k
       half = omega arith
 
-      go : (b : Bool) → at own k ≡ b → Misses v ends play (z .turns) (z .lands) k i
-      go true e = absurd (not-suc-le-zero {n = 0} (omega (arith, h, forgotten-own own bars (2 * k + 1) (places k o .1) (ap (at own) half ∙ e))))
+      go : (b : Bool) → at own k ≡ b
+          → Passed ends (contactsOf v ends play (laidBy v ends (z .turns)) (fragmentAt v ends play (laidBy v ends (z .turns)) k)) (z .lands) (getD (forgotten own bars) (2 * k) 0) (getD (forgotten own bars) (2 * k + 1) 0)
+      go true e = passed-none ends _ (z .lands) _ _ (forgotten-own own bars (2 * k) (places k o .0) (ap (at own) (channel-of k) ∙ e)) (forgotten-own own bars (2 * k + 1) (places k o .1) (ap (at own) half ∙ e))
       go false e =
-          still k i o e (omega (arith, h, forgotten-le own bars (2 * k + 1), known .most (2 * k + 1)))
-          (known .between k i o (omega (arith, l, forgotten-other own bars (2 * k) (places k o .0) (ap (at own) (channel-of k) ∙ e))) (omega (arith, h, forgotten-le own bars (2 * k + 1))))
+          let p = known .told k o in
+          passed-as ends _ (z .lands) _ _ _ _ (forgotten-other own bars (2 * k) (places k o .0) (ap (at own) (channel-of k) ∙ e)) (forgotten-other own bars (2 * k + 1) (places k o .1) (ap (at own) half ∙ e)) (record {
+            first = omega (arith, p .first, C .stands .holds .count, S .holds .count);
+            second = omega (arith, p .second, C .stands .holds .count, S .holds .count);
+            low = λ i h. still k i o e (omega (arith, h, p .first)) (p .low i h);
+            between = λ i l h. still k i o e (omega (arith, h, p .second)) (p .between i l h);
+          })
 
   -- what is known afterwards
   pub bars-stay : (bars′ : List ℕ) → bars′ ≡ forgotten own bars → Bars v ends play t′ (lands t′ fs′ ns′ (n + 1)) bars′
@@ -145,6 +147,5 @@ module _ (v : ℕ) (ends : List ℕ) (play : List Bool) (G : Layable v ends play
       (subst (λ (u : List ℕ). Bars v ends play u (z .lands) (forgotten own bars)) (sym (H .turns)) (record {
         long = length-forgotten own bars ∙ B .long;
         most = λ j. omega (arith, forgotten-le own bars j, known .most j, C .stands .holds .count, H .count);
-        low = low-stays;
-        between = between-stays;
+        told = told-stays;
       })))

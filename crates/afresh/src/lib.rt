@@ -5,24 +5,13 @@ ghost use mathlib.Core.List.{_++_, map};
 ghost use Prim.Native.Nat.{ℕ, _+_, _*_, _/_, _<_, _≤_};
 ghost use lib.ListN.{length, take, drop};
 ghost use Rattle.rules.specs.Lists.{at, concat};
-ghost use Rattle.rules.specs.Terms.{missing, next, landsOf};
+ghost use Rattle.rules.specs.Terms.{missing, landsOf};
 ghost use Rattle.rules.specs.Laying.{filled};
 ghost use Rattle.plate.specs.State.{mostDarts};
 ghost use Rattle.afresh.specs.Walks.{Walkable, landFrom, marked, noDartMarks};
 use numbers::fill;
 use numbers::narrow;
-use numbers::reverse;
-use numbers::wide;
 use plate::Plate;
-
-// The dart with which a land continues after dart d.
-fn next(turns: &[u16], d: usize) -> usize
-    requires { ⌜ (Walkable (now turns)) × (d < length (now turns)) ⌝ }
-    ensures { λ r. ⌜ r ≡ next (now (turns .entry)) d ⌝ }
-{
-    let e = reverse(d);
-    wide(turns[e])
-}
 
 // The land of dart a: puts its darts behind the first n of `darts`, and marks them. Answers where they end.
 fn walk_land(turns: &[u16], a: usize, darts: &mut [u16], seen: &mut [bool], n: usize) -> usize
@@ -40,7 +29,7 @@ fn walk_land(turns: &[u16], a: usize, darts: &mut [u16], seen: &mut [bool], n: u
         darts[k] = narrow(d);
         seen[d] = true;
         k += 1;
-        d = next(turns, d);
+        d = land::after(turns, d);
         if d == a {
             return k;
         }

@@ -15,7 +15,7 @@ use lib.ListN.{length, getD, set, replicate, length-set, length-replicate}
 use Rattle.rules.specs.Lists.{from, all, at}
 use Rattle.rules.specs.Terms.{leaves, laid, there, missing}
 use Rattle.rules.specs.Laying.{laidPorts, allLaid}
-use Rattle.laws.proofs.Tests.{cond-cases}
+use Rattle.laws.proofs.Tests.{cond-cases, or-false}
 use Rattle.fragment.specs.Fragments.{over}
 use Rattle.fragment.proofs.Rising.{from-cut, from-over, from-whole}
 
@@ -78,11 +78,7 @@ over-out play t k e = rw e (last (laid t (2 * k)))
 
 pub over-in : (play : List Bool) (t : List ℕ) (k : ℕ) → at play k ≡ true → over play t k ≡ laid t (2 * k)
 unfolding over
-over-in play t k e = rw e (last (laid t (2 * k)))
-  where
-    last : (b : Bool) → (b || false) ≡ b
-    last true = refl
-    last false = refl
+over-in play t k e = rw e (or-false (laid t (2 * k)))
 
 pub record Passing (f : ℕ → Bool) (n k : ℕ) : Type 0 where
   pub most : k ≤ n

@@ -42,8 +42,8 @@ slice-write-seen c = omega (arith, dart (c .before), c .before .loop .inv .1 .se
 add-k : tie.Need-add-k Inv-loop μ-loop
 add-k c = omega (arith, place (c .before), c .before .loop .inv .1 .darts-long)
 
-next-requires : tie.Need-next-requires Inv-loop μ-loop
-next-requires c κs = (c .before .before .before .before .before .pre .0, dart (c .before))
+after-requires : tie.Need-after-requires Inv-loop μ-loop
+after-requires c κs = let w = c .before .before .before .before .before .pre .0 in record { even = w .even; few = w .small; inside = (omega (arith, dart (c .before), c .before .before .before .before .before .pre .1 .0), tt) }
 
 same-length : tie.Need-same-length Inv-loop μ-loop
 same-length c = simp length-set (c .before .before .before .loop .inv .1 .darts-long)
@@ -53,14 +53,14 @@ same-length-2 c = simp length-set (c .before .before .before .loop .inv .1 .seen
 
 returns : tie.Need-returns Inv-loop μ-loop
 returns c =
-    let w = stop-as _ _ _ _ _ _ _ _ _ _ (c .before .before .before .loop .inv .1) _ (c .before .before .narrow .ensures) (sym (c .before .next .ensures) ∙ c .if1 .taken) (c .before .before .before .before .before .before .before .pre .1 .1 .0) in
+    let w = stop-as _ _ _ _ _ _ _ _ _ _ (c .before .before .before .loop .inv .1) _ (c .before .before .narrow .ensures) (sym (c .before .after .ensures) ∙ c .if1 .taken) (c .before .before .before .before .before .before .before .pre .1 .1 .0) in
     (w .0, (w .1, w .2))
 
 loop-less : tie.Need-loop-less Inv-loop μ-loop
 loop-less c = omega (arith, place (c .before .before .before), c .before .before .before .loop .inv .1 .darts-long)
 
 loop-again : tie.Need-loop-again Inv-loop μ-loop
-loop-again c = step-as _ _ _ _ _ _ _ _ _ _ (c .before .before .before .loop .inv .1) _ _ (c .before .before .narrow .ensures) (c .before .next .ensures) (c .if1 .left)
+loop-again c = step-as _ _ _ _ _ _ _ _ _ _ (c .before .before .before .loop .inv .1) _ _ (c .before .before .narrow .ensures) (c .before .after .ensures) (c .if1 .left)
 
 pub walk-land-spec : {M : Type 1} → statement M
 walk-land-spec =
@@ -74,7 +74,7 @@ walk-land-spec =
     slice-write-darts
     slice-write-seen
     add-k
-    next-requires
+    after-requires
     same-length
     same-length-2
     returns

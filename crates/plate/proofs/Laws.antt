@@ -2,17 +2,18 @@
 --   Known b p                   the code's plate p was read from the file b: its counts, its length, and every test passed
 -- number-.., bytes-numbers: one-byte numbers are a part of the file. length-plate, length-sheet: the lengths 8 + 2E and 8 + 6E. sheet-..: a sheet's V, E and ports stand where a plate file's do.
 -- ends-part: the ports of the pairs are a part of the file. plate-size, sheet-size: the length of a file that passed tests 1 to 9 (laws, `Tested`).
--- test-passed, test-refused: a test of the code that was passed or refused. known, unread: a reading that gave a plate or a refusal. pairs-part, part-is, pairs-ends, pairs-length, pairs-none: the pairs of each.
+-- test-passed, test-refused: a test of the code that was passed or refused. known, unread: a reading that gave a plate or a refusal. part-none, part-rest, part-front: the part of a file that the reader hands back as its pairs. part-is, pairs-ends, pairs-length: of a file that was read they are the ports of the pairs.
 -- length-copied, copied-front: a copy is as long as what it was copied into, and begins with what was copied. refusal-unique, test-unique, reading-unique: what an answer stands for determines it.
 -- Assumes nothing.
 use mathlib.Core.Path.{_≡_, refl, sym, ap, _∙_}
 use mathlib.Core.Bool.{true}
 use mathlib.Core.List.{List, []}
-use Prim.Native.Nat.{ℕ, zero, suc, _+_, _-_, _*_, _≤_, min}
+use Prim.Native.Nat.{ℕ, zero, suc, _+_, _-_, _*_, _/_, _<_, _≤_, min}
 use native.Mathlib.Numerals.{add-one}
+use native.Mathlib.Decide.{decLt}
 use native.Mathlib.Omega.{arith}
-use lib.ListN.{length, getD, take, drop, replicate, length-append, length-take, length-drop, length-replicate}
-use lib.Seq.{drop-cons, take-length, take-at}
+use lib.ListN.{length, getD, take, drop, drop-of-length-le, replicate, length-append, length-take, length-drop, length-replicate}
+use lib.Seq.{drop-cons, drop-length, take-all, take-length, take-at}
 use Rattle.rules.specs.Lists.{number, numbers}
 use Rattle.rules.specs.Files.{plateFile, sheetFile, limits1, portsIn, channelsIn, endsIn, pairsAt, turnsAt, fileLength}
 use Rattle.rules.specs.Refusals.{Answer, given, refused, passed, _>>_, fileTests, pieceTests, readPlate, pairsPart, pairsOf, Test as RuleTest, Plate as RulePlate}
@@ -152,22 +153,57 @@ module _ (b : List ℕ) (r : Reading) (e : readingOf r b ≡ readPlate b) where
 
 -- ---- the pairs
 
-pub pairs-none : (b : List ℕ) (n p : ℕ) → readPlate b ≡ refused n p → pairsOf b ≡ []
-unfolding pairsOf pairsPart
-pairs-none b n p e = rw e
+-- what stands behind the first 8 bytes of a file, also where it has fewer
+behind : (b : List ℕ) → drop (min 8 (length b)) b ≡ drop 8 b
+behind b = go (decLt (length b) 8)
+  where
+    go : Dec (length b < 8) → drop (min 8 (length b)) b ≡ drop 8 b
+    go (yes h) =
+        let m : min 8 (length b) ≡ length b = omega arith in
+        let all : length b ≤ 8 = omega arith in
+        ap (λ (n : ℕ). drop n b) m ∙ drop-length b ∙ sym (drop-of-length-le b all)
+    go (no h) =
+        let m : min 8 (length b) ≡ 8 = omega arith in
+        ap (λ (n : ℕ). drop n b) m
+
+module _ (b : List ℕ) (r : Reading) where
+  pub part-none : (x : Refusal) → r ≡ Unread x → [] ≡ pairsPart (readingOf r b) b
+  unfolding pairsPart readingOf
+  part-none x d = rw d
+
+  module _ (p : Plate) (d : r ≡ Read p) where
+    part-given : pairsPart (readingOf r b) b ≡ take (2 * p .channels) (drop 8 b)
+    unfolding pairsPart readingOf turnsAt pairsAt
+    part-given =
+        let n : 8 + 2 * p .channels * 1 - 8 ≡ 2 * p .channels = omega arith in
+        rw (d, n)
+
+    -- from a start that is the least of 8 and the file's length: all that is there, or as much as the channels ask
+    module _ (start : ℕ) (e : start ≡ min 8 (length b)) where
+      behind-start : drop start b ≡ drop 8 b
+      behind-start = ap (λ (n : ℕ). drop n b) e ∙ behind b
+
+      pub part-rest : (length b - start) / 2 < p .channels → take (length b - start) (drop start b) ≡ pairsPart (readingOf r b) b
+      part-rest h =
+          let l : length (drop start b) ≡ length b - start = length-drop start b in
+          take-all (length b - start) (drop start b) (omega (arith, l)) ∙ sym (take-all (2 * p .channels) (drop start b) (omega (arith, l))) ∙ ap (take (2 * p .channels)) behind-start ∙ sym part-given
+
+      pub part-front : take (start + 2 * p .channels - start) (drop start b) ≡ pairsPart (readingOf r b) b
+      part-front =
+          let n : start + 2 * p .channels - start ≡ 2 * p .channels = omega arith in
+          ap (λ (m : ℕ). take m (drop start b)) n ∙ ap (take (2 * p .channels)) behind-start ∙ sym part-given
+
+-- of the file's own reading
+pub part-is : (b : List ℕ) (r : Reading) → readingOf r b ≡ readPlate b → pairsPart (readingOf r b) b ≡ pairsOf b
+unfolding pairsOf
+part-is b r e = ap (λ (a : Answer RulePlate). pairsPart a b) e
 
 module _ (b : List ℕ) (p : Plate) (k : Known b p) where
-  pub pairs-part : pairsOf b ≡ take (2 * p .channels) (drop 8 b)
+  pairs-part : pairsOf b ≡ take (2 * p .channels) (drop 8 b)
   unfolding pairsOf pairsPart turnsAt pairsAt
   pairs-part =
       let n : 8 + 2 * channelsIn plateFile b * 1 - 8 ≡ 2 * p .channels = omega (arith, k .channels) in
       rw (k .answer, n)
-
-  -- as the part of the file that a caller takes itself
-  pub part-is : take (8 + 2 * p .channels - 8) (drop 8 b) ≡ pairsOf b
-  part-is =
-      let z : 8 + 2 * p .channels - 8 ≡ 2 * p .channels = omega arith in
-      ap (λ (n : ℕ). take n (drop 8 b)) z ∙ sym pairs-part
 
   pub pairs-ends : pairsOf b ≡ endsIn plateFile b
   pairs-ends = pairs-part ∙ rw (k .channels) (sym (ends-part b (omega (arith, k .long, k .channels))))

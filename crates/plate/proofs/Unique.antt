@@ -3,6 +3,7 @@
 -- `seen` gets the result and the parameters at exit, x .0, x .1 .0, x .1 .1 .0 and so on. Of `pairs` it sees the contents of the part that is returned: where the part lies is not promised.
 -- Assumes nothing.
 use mathlib.Core.Path.{_≡_, sym, _∙_}
+use mathlib.Core.Bool.{Bool}
 use mathlib.Core.List.{List}
 use Prim.Native.Nat.{ℕ}
 use contract.Lifetimes.{Lfts}
@@ -14,6 +15,16 @@ use Rattle.plate.specs.declared.Refusal.{Refusal}
 use Rattle.plate.specs.declared.Test.{Test}
 use Rattle.plate.specs.declared.Reading.{Reading}
 use Rattle.plate.proofs.Laws.{plate-same, test-unique, reading-unique}
+use Rattle.plate.proofs.Plate.no_ends.Kinds as no-ends-kinds
+use Rattle.plate.proofs.Plate.no_ends.Reads as no-ends-reads
+use Rattle.plate.proofs.Plate.no_turns.Kinds as no-turns-kinds
+use Rattle.plate.proofs.Plate.no_turns.Reads as no-turns-reads
+use Rattle.plate.proofs.Plate.no_ports.Kinds as no-ports-kinds
+use Rattle.plate.proofs.Plate.no_ports.Reads as no-ports-reads
+use Rattle.plate.proofs.Plate.no_marks.Kinds as no-marks-kinds
+use Rattle.plate.proofs.Plate.no_marks.Reads as no-marks-reads
+use Rattle.plate.proofs.Plate.all_channels.Kinds as all-channels-kinds
+use Rattle.plate.proofs.Plate.all_channels.Reads as all-channels-reads
 use Rattle.plate.proofs.counts.Kinds as counts-kinds
 use Rattle.plate.proofs.counts.Reads as counts-reads
 use Rattle.plate.proofs.copy_ends.Kinds as copy-ends-kinds
@@ -29,6 +40,25 @@ use Rattle.plate.proofs.pairs.Reads as pairs-reads
 
 abbrev pub OneResult : (n : ℕ) (ps : List (PK n)) (r : RK n) (B : Type 0) → Out n ps r → ((κs : Lfts n) → resT r κs .Denot → AtExit (endedOf n ps r) κs → B) → Type 0
 OneResult n ps r B Q seen = (κs : Lfts n) (a : Dens κs ps) (z w : resT r κs .Denot) (x y : AtExit (endedOf n ps r) κs) → Q κs a z x → Q κs a w y → seen κs z x ≡ seen κs w y
+
+-- ---- the makers of an empty state
+
+pub no-ends-unique : OneResult 0 no-ends-kinds.ps no-ends-kinds.r (List ℕ) no-ends-reads.Post (λ κs r x. r)
+no-ends-unique κs a r s x y p q = p .0 ∙ sym (q .0)
+
+pub no-turns-unique : OneResult 0 no-turns-kinds.ps no-turns-kinds.r (List ℕ) no-turns-reads.Post (λ κs r x. r)
+no-turns-unique κs a r s x y p q = p .0 ∙ sym (q .0)
+
+pub no-ports-unique : OneResult 0 no-ports-kinds.ps no-ports-kinds.r (List ℕ) no-ports-reads.Post (λ κs r x. r)
+no-ports-unique κs a r s x y p q = p .0 ∙ sym (q .0)
+
+pub no-marks-unique : OneResult 0 no-marks-kinds.ps no-marks-kinds.r (List Bool) no-marks-reads.Post (λ κs r x. r)
+no-marks-unique κs a r s x y p q = p .0 ∙ sym (q .0)
+
+pub all-channels-unique : OneResult 0 all-channels-kinds.ps all-channels-kinds.r (List Bool) all-channels-reads.Post (λ κs r x. r)
+all-channels-unique κs a r s x y p q = p .0 ∙ sym (q .0)
+
+-- ---- the reader
 
 pub counts-unique : OneResult 1 counts-kinds.ps counts-kinds.r Plate counts-reads.Post (λ κs r x. r)
 counts-unique κs a r s x y p q = plate-same r s (p .0 ∙ sym (q .0)) (p .1 ∙ sym (q .1))

@@ -5,7 +5,7 @@ ghost use Prim.Native.Nat.{min, _+_, _*_, _/_, _<_, _≤_};
 ghost use lib.ListN.{length, getD, replicate};
 ghost use Rattle.rules.specs.Lists.{number};
 ghost use Rattle.rules.specs.Files.{plateFile, limits1, portsIn, channelsIn, endsIn, fileLength};
-ghost use Rattle.rules.specs.Refusals.{refused, outside, otherMark, markTests, countTests, pairTests, fileTests, passed, pieceTests, readPlate, pairsOf};
+ghost use Rattle.rules.specs.Refusals.{refused, outside, otherMark, markTests, countTests, pairTests, fileTests, passed, pieceTests, readPlate, pairsPart};
 ghost use Rattle.pieces.specs.Lent.{Lent};
 ghost use Rattle.plate.specs.Answers.{formatOf, testOf, readingOf, refusalIn};
 ghost use Rattle.plate.specs.State.{mostDarts, noEnds, noTurns, allChannels, noMarks, noPorts, copied, Room, Whole};
@@ -51,15 +51,8 @@ impl Plate {
     // The bytes of a turn in a sheet.
     pub const TURN_BYTES: usize = 2;
 
-    // The plate with nothing on it.
-    pub fn empty() -> Self
-        ensures { λ r. ⌜ (r .ports ≡ 0) × (r .channels ≡ 0) ⌝ }
-    {
-        Self {
-            ports: 0,
-            channels: 0,
-        }
-    }
+    // The bytes that the listing call is to be lent: no listing has more.
+    pub const MOST_LISTING: usize = 65536;
 
     // For each dart of the largest plate, port 0.
     pub fn no_ends() -> [u16; Plate::MOST_DARTS]
@@ -438,13 +431,18 @@ pub fn refusal_in(got: Reading) -> Refusal
     }
 }
 
-// The pairs, as a part of the caller's file; empty where the file is refused.
-pub fn pairs(file: &[u8]) -> &[u8]
-    ensures { λ r. ⌜ now r ≡ pairsOf (now (file .entry)) ⌝ }
+// The pairs of a file that was read, as that part of it; empty where it was refused.
+pub fn pairs(file: &[u8], got: Reading) -> &[u8]
+    ensures { λ r. let b = now (file .entry) in ⌜ now r ≡ pairsPart (readingOf got b) b ⌝ }
 {
-    let Reading::Plate(p) = read(file) else {
+    let Reading::Plate(p) = got else {
         return &file[..0];
     };
-    let end = Plate::PAIRS_AT + 2 * p.channels;
-    &file[Plate::PAIRS_AT..end]
+    let start = smaller(Plate::PAIRS_AT, file.len());
+    let room = file.len() - start;
+    if room / 2 < p.channels {
+        return &file[start..];
+    }
+    let end = start + 2 * p.channels;
+    &file[start..end]
 }

@@ -306,6 +306,16 @@ told (refused n p) = refused n p
 unfoldable pub filled : List ℕ → ℕ → ℕ → List ℕ → List ℕ
 filled l mark needed old = l ++ replicate (needed - length l) mark ++ drop needed old
 
+-- A lent buffer of bytes afterwards: those that were written, and behind them what was there before. A refusal alters no element.
+unfoldable pub bytesLeft : Answer (List ℕ) → List ℕ → List ℕ
+bytesLeft (given s) old = s ++ drop (length s) old
+bytesLeft (refused n p) old = old
+
+-- how many bytes were written
+unfoldable pub bytesTold : Answer (List ℕ) → Answer ℕ
+bytesTold (given s) = given (length s)
+bytesTold (refused n p) = refused n p
+
 -- All 2E turns (65,535 for unlaid darts). A refusal alters no element.
 unfoldable pub turnsLeft : Answer Laid → List ℕ → List ℕ
 turnsLeft (given a) old = filled (a .outcome .state .turns) missing (2 * a .plate .channels) old

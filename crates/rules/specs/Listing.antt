@@ -3,6 +3,7 @@
 --   fields ns        a blank and the digits of each of ns
 --   line w ns        the word w, fields, and a newline
 --   listing b        the listing of a file
+--   writeListing b lent     the listing call, so many bytes being lent;  bytesLeft (Laying): the buffer afterwards
 -- Assumes nothing.
 use mathlib.Core.Bool.{cond}
 use mathlib.Core.List.{List, [], _∷_, _++_, map}
@@ -13,7 +14,7 @@ use lib.ListN.{length, getD}
 use Rattle.rules.specs.Lists.{from, concat, text}
 use Rattle.rules.specs.Terms.{leaves, enters, dartsAt, ring}
 use Rattle.rules.specs.Files.{plateFile}
-use Rattle.rules.specs.Refusals.{Answer, given, refused, Plate, readPlate}
+use Rattle.rules.specs.Refusals.{Answer, given, refused, Plate, lentTest, readPlate, _>>=_, _>>_}
 use Rattle.rules.specs.Laying.{Path, Outcome, FLAT, STUCK, PARTIAL, withoutCap, wholePlate, laidOut, firstCycle}
 
 -- ---- lines
@@ -86,3 +87,15 @@ listingOf (refused n q) = line "REFUSED" (n ∷ q ∷ [])
 
 unfoldable pub listing : List ℕ → List ℕ
 listing b = listingOf (readPlate b)
+
+-- ---- the call
+
+-- The bytes that it is to be lent: no listing has more.
+abbrev pub mostListing : ℕ
+mostListing = 65536
+
+-- 15: a lent result buffer too short. A refused file has a listing, too.
+unfoldable pub writeListing : List ℕ → ℕ → Answer (List ℕ)
+writeListing b bytes = do
+  lentTest (record { needed = mostListing; lent = bytes } ∷ [])
+  given (listing b)

@@ -1,4 +1,4 @@
--- Document 01, "Refusal numbers": 1 to 15, each with its place. (16 is the sheet writer's and stands in Writing.)
+-- Document 01, "Refusal numbers": 1 to 15, each with its place. (16 is the sheet writer's and stands in Sheets.)
 --   Answer A                 what a caller gets: something given, or a refusal with its number and place
 --   refuse n bad             refusal n at place 0, where it applies
 --   refuseAt n where bad m   refusal n at the place of the lowest of 0, .., m − 1 that is bad

@@ -2,13 +2,13 @@
 --   Judged                       what a sheet is read into: its lands, and whether it is flat
 --   readSheet b darts lengths    the reading call, so many elements being lent;  dartsRead, lengthsRead: the two buffers afterwards
 --   judgeSheet b                 the same without buffers
---   writeSheet b lent            the bytes of the sheet of a plate file, so many bytes being lent;  sheetLeft: the buffer afterwards
+--   writeSheet b lent            the bytes of the sheet of a plate file, so many bytes being lent;  bytesLeft (Laying): the buffer afterwards
 -- Assumes nothing.
 use mathlib.Core.Bool.{Bool}
-use mathlib.Core.List.{List, [], _∷_, _++_, map}
+use mathlib.Core.List.{List, [], _∷_, map}
 use Prim.Native.Nat.{ℕ, _+_, _*_}
 use lib.Dec.{eqb}
-use lib.ListN.{length, drop}
+use lib.ListN.{length}
 use Rattle.rules.specs.Lists.{concat}
 use Rattle.rules.specs.Terms.{missing, landsOf}
 use Rattle.rules.specs.Files.{sheetFile, fileLength, fileOf}
@@ -81,8 +81,3 @@ writeSheet b bytes = do
   lentTest (record { needed = fileLength sheetFile (p .channels); lent = bytes } ∷ [])
   stuckTest (laidOut p withoutCap)
   given (fileOf sheetFile (p .ports) (p .channels) (p .ends) (laidOut p withoutCap .state .turns))
-
--- The sheet's bytes, and behind them what was there before. A refusal alters no element.
-unfoldable pub sheetLeft : Answer (List ℕ) → List ℕ → List ℕ
-sheetLeft (given s) old = s ++ drop (length s) old
-sheetLeft (refused n p) old = old

@@ -13,8 +13,8 @@ use Rattle.rules.specs.Terms.{leaves, reverse, enters, there, laid, next
 use Rattle.rules.specs.Files.{plateFile, sheetFile, portsIn, channelsIn, pairsAt, endsIn, turnsAt, turnsIn, fileLength, fileOf}
 use Rattle.rules.specs.Ways.{iter, mark, grow, layers, leads, closer, nearest, descend, path, reached}
 use Rattle.rules.specs.Refusals.{Answer, given, refused, refuse, refuseAt, short, otherMark, otherVersion, markTests, outside, otherLength, countTests, strange, loop, samePair, metEarlier, pairTests, fileTests, apart, cuts, pieceTests, wildTurn, awayTurn, oneRing, brokenRing, turnTests, lentTest, readPlate, pairsPart, pairsOf, readTurns}
-use Rattle.rules.specs.Laying.{Laid, Told, Word, FLAT, STUCK, PARTIAL, back, first, last, before, since, link, around, splitTurns, splitLands, without, single, lowest, chosen, stuckOr, laidPorts, admissible, cycle, start, within, seed, fragmentAt, settled, fragments, contactsOf, choiceOf, choices, lay, allLaid, judge, rounds, firstChannel, firstCycle, laying, laidOut, landsOfFlat, layPlate, told, filled, turnsLeft, landsLeft, lengthsLeft}
-use Rattle.rules.specs.Sheets.{Judged, isFlat, judged, judgeSheet, readSheet, counted, dartsRead, lengthsRead, stuckTest, writeSheet, sheetLeft}
+use Rattle.rules.specs.Laying.{Laid, Told, Word, FLAT, STUCK, PARTIAL, back, first, last, before, since, link, around, splitTurns, splitLands, without, single, lowest, chosen, stuckOr, laidPorts, admissible, cycle, start, within, seed, fragmentAt, settled, fragments, contactsOf, choiceOf, choices, lay, allLaid, judge, rounds, firstChannel, firstCycle, laying, laidOut, landsOfFlat, layPlate, told, filled, bytesLeft, turnsLeft, landsLeft, lengthsLeft}
+use Rattle.rules.specs.Sheets.{Judged, isFlat, judged, judgeSheet, readSheet, counted, dartsRead, lengthsRead, stuckTest, writeSheet}
 use Rattle.rules.specs.Mill.{refusalNumber, doneNumber, writeNumber, flatNumber, judgeNumber}
 use Rattle.rules.specs.Listing.{digits, decimal, fields, line, headLine, cycleLine, pathLine, wordLine, landLines, portLine, sheetLines, laidLines, listingOf, listing}
 
@@ -58,7 +58,7 @@ seen (fills b n t l m) =
 seen (reads b) = landsSeen (judgeSheet b)
 seen (lists b) = prints (listing b)
 seen (writes b old) =
-    let after = sheetLeft (writeSheet b (length old)) old in
+    let after = bytesLeft (writeSheet b (length old)) old in
     sheet (writeNumber b old) after (judgeNumber after)
 
 -- ---- the files
@@ -146,5 +146,5 @@ table =
     ∷ []
 
 pub tried : map (λ (r : Row). seen (r .try)) table ≡ map (λ (r : Row). r .gives) table
-unfolding table seen from any all keep has seek at concat text bytes number numbers leaves reverse enters there laid next walk least turnTo listed visits gather landsOf dartsAt onward ring portsIn channelsIn pairsAt endsIn turnsAt turnsIn fileLength fileOf iter mark grow layers leads closer nearest descend path reached refuse refuseAt short otherMark otherVersion markTests outside otherLength countTests strange loop samePair metEarlier pairTests fileTests apart cuts pieceTests wildTurn awayTurn oneRing brokenRing turnTests lentTest readPlate pairsPart pairsOf readTurns back first last before since link around splitTurns splitLands without single lowest chosen stuckOr laidPorts admissible cycle start within seed fragmentAt settled fragments contactsOf choiceOf choices lay allLaid judge rounds firstChannel firstCycle laying laidOut landsOfFlat layPlate told filled turnsLeft landsLeft lengthsLeft isFlat judged judgeSheet readSheet counted dartsRead lengthsRead stuckTest writeSheet sheetLeft refusalNumber doneNumber writeNumber flatNumber judgeNumber digits decimal fields line headLine cycleLine pathLine wordLine landLines portLine sheetLines laidLines listingOf listing
+unfolding table seen from any all keep has seek at concat text bytes number numbers leaves reverse enters there laid next walk least turnTo listed visits gather landsOf dartsAt onward ring portsIn channelsIn pairsAt endsIn turnsAt turnsIn fileLength fileOf iter mark grow layers leads closer nearest descend path reached refuse refuseAt short otherMark otherVersion markTests outside otherLength countTests strange loop samePair metEarlier pairTests fileTests apart cuts pieceTests wildTurn awayTurn oneRing brokenRing turnTests lentTest readPlate pairsPart pairsOf readTurns back first last before since link around splitTurns splitLands without single lowest chosen stuckOr laidPorts admissible cycle start within seed fragmentAt settled fragments contactsOf choiceOf choices lay allLaid judge rounds firstChannel firstCycle laying laidOut landsOfFlat layPlate told filled turnsLeft landsLeft lengthsLeft isFlat judged judgeSheet readSheet counted dartsRead lengthsRead stuckTest writeSheet bytesLeft refusalNumber doneNumber writeNumber flatNumber judgeNumber digits decimal fields line headLine cycleLine pathLine wordLine landLines portLine sheetLines laidLines listingOf listing
 tried = refl

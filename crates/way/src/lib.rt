@@ -14,9 +14,10 @@ ghost use Rattle.way.specs.Marks.{Sizes, freeOr, begun, lowered, within,
 use numbers::narrow;
 use numbers::reverse;
 use numbers::wide;
+use plate::Plate;
 
 // Stands for no mark yet, and for no dart yet.
-const NONE: usize = 65535;
+const NONE: usize = Plate::MISSING as usize;
 
 // The port that dart d enters.
 fn enters(ends: &[u16], d: usize) -> usize

@@ -1,18 +1,12 @@
--- `plate::pairs` meets its contract: the file that was read has 8 + 2E bytes, and the pairs stand behind the first 8.
+-- `plate::pairs` meets its contract: the pairs stand behind the first 8 bytes, as many as the reading's channels ask or as there are.
 -- Assumes nothing.
-use mathlib.Core.Path.{_≡_, sym}
-use Prim.Native.Nat.{_+_, _-_, _*_}
-use native.Mathlib.Omega.{arith}
-use Rattle.plate.proofs.Laws.{Known, known, unread, pairs-part, pairs-none}
+use Rattle.plate.proofs.Laws.{part-none, part-rest, part-front}
 use borrow.Author.Needs.{needs}
 use Rattle.plate.proofs.pairs.Statement.{statement}
 use Rattle.plate.proofs.pairs.Tie as tie
 
-read-requires : tie.Need-read-requires
-read-requires c κs = search needs
-
-enum-known-p : tie.Need-enum-known-p
-enum-known-p c = search needs
+enum-known-got : tie.Need-enum-known-got
+enum-known-got c = search needs
 
 enum-told : tie.Need-enum-told
 enum-told c = search needs
@@ -21,17 +15,13 @@ slice-aggregate-result : tie.Need-slice-aggregate-result
 slice-aggregate-result c = search needs
 
 returns : tie.Need-returns
-returns c = sym (pairs-none _ _ _ (unread _ _ (c .before .before .before .read .ensures) _ (c .before .enum-told .given .1)))
+returns c = part-none (c .before .before .before .before .args .file .now) _ _ (c .before .enum-told .given .1)
 
--- the plate that was read
-at-plate : (c : tie.After-struct-known) → Known (c .before .before .before .before .before .before .args .file .now) (c .before .before .p .given .0 .0)
-at-plate c = known _ _ (c .before .before .before .before .read .ensures) _ (c .before .before .p .given .1)
+smaller-requires : tie.Need-smaller-requires
+smaller-requires c κs = search needs
 
-mul-end : tie.Need-mul-end
-mul-end c = omega (arith, at-plate c .most-channels)
-
-add-end : tie.Need-add-end
-add-end c = omega (arith, at-plate c .most-channels)
+sub-room : tie.Need-sub-room
+sub-room c = search needs
 
 sub-result : tie.Need-sub-result
 sub-result c = search needs
@@ -40,26 +30,46 @@ part-result-start : tie.Need-part-result-start
 part-result-start c = search needs
 
 part-result-end : tie.Need-part-result-end
-part-result-end c = omega (arith, at-plate c .long)
+part-result-end c = search needs
 
 returns-2 : tie.Need-returns-2
-returns-2 c =
-    let n = c .before .before .before .p .given .0 .0 .channels in
-    let e : 8 + 2 * n - 8 ≡ 2 * n = omega arith in
-    rw e (sym (pairs-part _ _ (at-plate (c .before))))
+returns-2 c = part-rest (c .before .before .before .before .before .before .before .before .args .file .now) _ _ (c .before .before .before .before .before .got .given .1) _ (c .before .before .before .smaller .ensures) (c .before .if1 .taken)
+
+mul-end : tie.Need-mul-end
+mul-end c = search needs
+
+add-end : tie.Need-add-end
+add-end c = search needs
+
+sub-result-2 : tie.Need-sub-result-2
+sub-result-2 c = search needs
+
+part-result-start-2 : tie.Need-part-result-start-2
+part-result-start-2 c = search needs
+
+part-result-end-2 : tie.Need-part-result-end-2
+part-result-end-2 c = search needs
+
+returns-3 : tie.Need-returns-3
+returns-3 c = part-front (c .before .before .before .before .before .before .before .before .before .args .file .now) _ _ (c .before .before .before .before .before .before .got .given .1) _ (c .before .before .before .before .smaller .ensures)
 
 pub pairs-spec : {M : Type 1} → statement M
 pairs-spec =
     tie.close
     (tie.spec
-    read-requires
-    enum-known-p
+    enum-known-got
     enum-told
     slice-aggregate-result
     returns
-    mul-end
-    add-end
+    smaller-requires
+    sub-room
     sub-result
     part-result-start
     part-result-end
-    returns-2)
+    returns-2
+    mul-end
+    add-end
+    sub-result-2
+    part-result-start-2
+    part-result-end-2
+    returns-3)

@@ -15,8 +15,8 @@ use lib.Seq.{drop-nil}
 use Rattle.rules.specs.Lists.{any}
 use Rattle.rules.specs.Files.{sheetFile, fileLength, fileOf}
 use Rattle.rules.specs.Refusals.{Answer, given, refused, refuse, lentTest, Plate as RulePlate, readPlate, pairsOf}
-use Rattle.rules.specs.Laying.{Told, Outcome, Word as RuleWord, FLAT, STUCK, PARTIAL, withoutCap, laidOut, told, filled, turnsLeft}
-use Rattle.rules.specs.Sheets.{writeSheet, sheetLeft}
+use Rattle.rules.specs.Laying.{bytesLeft, Told, Outcome, Word as RuleWord, FLAT, STUCK, PARTIAL, withoutCap, laidOut, told, filled, turnsLeft}
+use Rattle.rules.specs.Sheets.{writeSheet}
 use Rattle.laws.proofs.Refusals.{given-inj, refused-not}
 use Rattle.laws.proofs.Reading.{accepted, kept-laidOut}
 use Rattle.laws.proofs.RoundTrip.{length-of, sheet-fits, wild-flat, write-given, write-refused}
@@ -41,13 +41,13 @@ use Rattle.draft.specs.Answers.{writtenAnswer, done}
 
 -- ---- what an answer stands for
 
-refused-all : (a : Answer (List ℕ)) (y : Refusal) → a ≡ refused (y .number) (y .place) → (old : List ℕ) → (writtenAnswer (Refused y) ≡ done a) × (old ≡ sheetLeft a old)
-unfolding writtenAnswer done sheetLeft
-refused-all a y e old = (sym (ap done e), sym (ap (λ (x : Answer (List ℕ)). sheetLeft x old) e))
+refused-all : (a : Answer (List ℕ)) (y : Refusal) → a ≡ refused (y .number) (y .place) → (old : List ℕ) → (writtenAnswer (Refused y) ≡ done a) × (old ≡ bytesLeft a old)
+unfolding writtenAnswer done bytesLeft
+refused-all a y e old = (sym (ap done e), sym (ap (λ (x : Answer (List ℕ)). bytesLeft x old) e))
 
-given-all : (a : Answer (List ℕ)) (s old new : List ℕ) → a ≡ given s → new ≡ s ++ drop (length s) old → (writtenAnswer Done ≡ done a) × (new ≡ sheetLeft a old)
-unfolding writtenAnswer done sheetLeft
-given-all a s old new e h = (sym (ap done e), h ∙ sym (ap (λ (x : Answer (List ℕ)). sheetLeft x old) e))
+given-all : (a : Answer (List ℕ)) (s old new : List ℕ) → a ≡ given s → new ≡ s ++ drop (length s) old → (writtenAnswer Done ≡ done a) × (new ≡ bytesLeft a old)
+unfolding writtenAnswer done bytesLeft
+given-all a s old new e h = (sym (ap done e), h ∙ sym (ap (λ (x : Answer (List ℕ)). bytesLeft x old) e))
 
 -- ---- files that are refused, and buffers too short
 
@@ -60,13 +60,13 @@ unfolding writeSheet lentTest refuse any
 write-short b m p e h = rw (e, lt-ltb m (fileLength sheetFile (p .channels)) h)
 
 pub unread-all : (b : List ℕ) (r : Reading) → readingOf r b ≡ readPlate b → (x : Refusal) → r ≡ Unread x → (y : Refusal) → y ≡ refusalIn r → (old : List ℕ)
-    → (writtenAnswer (Refused y) ≡ done (writeSheet b (length old))) × (old ≡ sheetLeft (writeSheet b (length old)) old)
+    → (writtenAnswer (Refused y) ≡ done (writeSheet b (length old))) × (old ≡ bytesLeft (writeSheet b (length old)) old)
 unread-all b r e x d y g old =
     refused-all (writeSheet b (length old)) y
     (write-unread b (length old) (x .number) (x .place) (unread b r e x d) ∙ ap (λ (z : Refusal). refused (z .number) (z .place)) (sym (g ∙ ap refusalIn d))) old
 
 pub short-all : (b : List ℕ) (p : Plate) → Known b p → (old : List ℕ) → length old < fileLength sheetFile (p .channels)
-    → (writtenAnswer (Refused (record { number = 15; place = 0 })) ≡ done (writeSheet b (length old))) × (old ≡ sheetLeft (writeSheet b (length old)) old)
+    → (writtenAnswer (Refused (record { number = 15; place = 0 })) ≡ done (writeSheet b (length old))) × (old ≡ bytesLeft (writeSheet b (length old)) old)
 short-all b p k old h =
     refused-all (writeSheet b (length old)) (record { number = 15; place = 0 })
     (write-short b (length old) (plateIn b) (k .answer) (subst (λ (c : ℕ). length old < fileLength sheetFile c) (k .channels) h)) old
@@ -152,11 +152,11 @@ module _ (b : List ℕ) (p : Plate) (k : Known b p) where
       enough′ : fileLength sheetFile (P .channels) ≤ length old
       enough′ = subst (λ (c : ℕ). fileLength sheetFile c ≤ length old) (k .channels) enough
 
-      pub stuck-all : (q n : ℕ) → r ≡ Stuck q n → (y : Refusal) → (y .number ≡ 16) × (y .place ≡ n) → (writtenAnswer (Refused y) ≡ done (writeSheet b (length old))) × (old ≡ sheetLeft (writeSheet b (length old)) old)
+      pub stuck-all : (q n : ℕ) → r ≡ Stuck q n → (y : Refusal) → (y .number ≡ 16) × (y .place ≡ n) → (writtenAnswer (Refused y) ≡ done (writeSheet b (length old))) × (old ≡ bytesLeft (writeSheet b (length old)) old)
       stuck-all q n d y g = refused-all (writeSheet b (length old)) y (stuck-refused (length old) enough′ q n d ∙ sym (rw (g .0, g .1) refl)) old
 
       pub flat-all : Unstuck r → (new put : List ℕ) → put ≡ t → new ≡ fileOf sheetFile (p .ports) (p .channels) pairs put ++ drop (fileLength sheetFile (p .channels)) old
-          → (writtenAnswer Done ≡ done (writeSheet b (length old))) × (new ≡ sheetLeft (writeSheet b (length old)) old)
+          → (writtenAnswer Done ≡ done (writeSheet b (length old))) × (new ≡ bytesLeft (writeSheet b (length old)) old)
       flat-all u new put g h =
           let w = flat-said u in
           let s = fileOf sheetFile (P .ports) (P .channels) (P .ends) (o .state .turns) in

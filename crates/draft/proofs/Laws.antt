@@ -1,4 +1,4 @@
--- What callers use of the writing call's definitions (rules, `writeSheet` and `sheetLeft`): a sheet that is written reads back.
+-- What callers use of the writing call's definitions (rules, `writeSheet` and `bytesLeft`): a sheet that is written reads back.
 -- b is any file, old any buffer that is lent, and s the sheet that the call gives; nothing else is supposed of them.
 --   left                    the buffer afterwards
 -- sheet-left, rest-left: the buffer begins with the sheet, and behind it is as it was. written-plate: the file is read into a plate, and the buffer has the length that its sheet needs.
@@ -15,8 +15,8 @@ use lib.Seq.{take-append-seam, drop-append-seam}
 use Rattle.rules.specs.Lists.{any}
 use Rattle.rules.specs.Files.{sheetFile, fileLength}
 use Rattle.rules.specs.Refusals.{Answer, given, passed, refuse, lentTest, Plate, Sheet, readPlate, readTurns}
-use Rattle.rules.specs.Laying.{withoutCap, laidOut}
-use Rattle.rules.specs.Sheets.{Judged, judged, judgeSheet, readSheet, writeSheet, sheetLeft}
+use Rattle.rules.specs.Laying.{bytesLeft, withoutCap, laidOut}
+use Rattle.rules.specs.Sheets.{Judged, judged, judgeSheet, readSheet, writeSheet}
 use Rattle.laws.proofs.Refusals.{bind-given, then-given, given-inj, refuse-passed}
 use Rattle.laws.proofs.InOrder.{inOrder}
 use Rattle.laws.proofs.Demands.{written-reads}
@@ -44,11 +44,11 @@ judged-read b j darts lengths h d l =
 
 module _ (b old s : List ℕ) (e : writeSheet b (length old) ≡ given s) where
   abbrev left : List ℕ
-  left = sheetLeft (writeSheet b (length old)) old
+  left = bytesLeft (writeSheet b (length old)) old
 
   left-is : left ≡ s ++ drop (length s) old
-  unfolding sheetLeft
-  left-is = ap (λ (a : Answer (List ℕ)). sheetLeft a old) e
+  unfolding bytesLeft
+  left-is = ap (λ (a : Answer (List ℕ)). bytesLeft a old) e
 
   pub sheet-left : take (length s) left ≡ s
   sheet-left = ap (take (length s)) left-is ∙ take-append-seam s (drop (length s) old)

@@ -7,7 +7,8 @@ ghost use lib.Seq.{sets};
 ghost use Rattle.rules.specs.Lists.{concat, bytes};
 ghost use Rattle.rules.specs.Files.{sheetFile, pairsAt, fileLength, fileOf};
 ghost use Rattle.rules.specs.Refusals.{readPlate};
-ghost use Rattle.rules.specs.Sheets.{writeSheet, sheetLeft};
+ghost use Rattle.rules.specs.Laying.{bytesLeft};
+ghost use Rattle.rules.specs.Sheets.{writeSheet};
 ghost use Rattle.plate.specs.declared.Reading.the-variants.{Plate as Read};
 ghost use Rattle.plate.specs.Answers.{readingOf};
 ghost use Rattle.draft.specs.Answers.{writtenAnswer, done};
@@ -120,15 +121,14 @@ fn lay_sheet(file: &[u8], p: Plate, out: &mut [u8]) -> Written
     requires plate { ⌜ readingOf (Read p) (now file) ≡ readPlate (now file) ⌝ }
     requires room { ⌜ fileLength sheetFile (p .channels) ≤ length (now out) ⌝ }
     ensures answer { λ r. ⌜ writtenAnswer r ≡ done (writeSheet (now (file .entry)) (length (now (out .entry)))) ⌝ }
-    ensures sheet { λ _. ⌜ now (out .exit) ≡ sheetLeft (writeSheet (now (file .entry)) (length (now (out .entry)))) (now (out .entry)) ⌝ }
+    ensures sheet { λ _. ⌜ now (out .exit) ≡ bytesLeft (writeSheet (now (file .entry)) (length (now (out .entry)))) (now (out .entry)) ⌝ }
 {
     let darts = 2 * p.channels;
     let most = p.channels + 2 - p.ports;
     let mut turns = Plate::no_turns();
     let mut lands = Plate::no_turns();
     let mut lengths = Plate::no_turns();
-    let end = Plate::PAIRS_AT + darts;
-    let pairs = &file[Plate::PAIRS_AT..end];
+    let pairs = plate::pairs(file, Reading::Plate(p));
     let laid = laid::lay_pairs(
         pairs,
         p.ports,
@@ -147,7 +147,7 @@ fn lay_sheet(file: &[u8], p: Plate, out: &mut [u8]) -> Written
 // Writes the turn sheet of a plate file, laid without a cap, into the buffer lent. A refusal alters no byte.
 pub fn write_sheet(file: &[u8], out: &mut [u8]) -> Written
     ensures answer { λ r. ⌜ writtenAnswer r ≡ done (writeSheet (now (file .entry)) (length (now (out .entry)))) ⌝ }
-    ensures sheet { λ _. ⌜ now (out .exit) ≡ sheetLeft (writeSheet (now (file .entry)) (length (now (out .entry)))) (now (out .entry)) ⌝ }
+    ensures sheet { λ _. ⌜ now (out .exit) ≡ bytesLeft (writeSheet (now (file .entry)) (length (now (out .entry)))) (now (out .entry)) ⌝ }
 {
     let got = plate::read(file);
     let Reading::Plate(p) = got else {

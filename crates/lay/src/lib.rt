@@ -7,7 +7,6 @@ ghost use Rattle.rules.specs.Laying.{layPlate, told, turnsLeft, landsLeft, leng
 ghost use Rattle.laid.specs.Answers.{laidAnswer};
 use laid::Laid;
 use numbers::wide32;
-use plate::Plate;
 use plate::Reading;
 use plate::Refusal;
 
@@ -43,9 +42,8 @@ pub fn lay(file: &[u8], n: u32, turns: &mut [u16], lands: &mut [u16], lengths: &
             place: 0,
         });
     }
-    let end = Plate::PAIRS_AT + darts;
     laid::lay_pairs(
-        &file[Plate::PAIRS_AT..end],
+        plate::pairs(file, got),
         p.ports,
         wide32(n),
         &mut turns[..darts],

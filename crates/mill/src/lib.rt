@@ -3,7 +3,8 @@ ghost use mathlib.Core.Path.{_≡_};
 ghost use mathlib.Core.Bool.{cond};
 ghost use Prim.Native.Nat.{_*_, _+_, _<_, _≤_};
 ghost use lib.ListN.{length};
-ghost use Rattle.rules.specs.Sheets.{writeSheet, sheetLeft};
+ghost use Rattle.rules.specs.Laying.{bytesLeft};
+ghost use Rattle.rules.specs.Sheets.{writeSheet};
 ghost use Rattle.rules.specs.Mill.{refusalNumber, writeNumber, judgeNumber};
 use draft::Written;
 use plate::Refusal;
@@ -34,7 +35,7 @@ fn flat_number(flat: bool) -> u32
 #[no_mangle]
 pub extern "C" fn plate_write_sheet(file: &[u8], out: &mut [u8]) -> u32
     ensures number { λ r. ⌜ r ≡ writeNumber (now (file .entry)) (now (out .entry)) ⌝ }
-    ensures sheet { λ _. ⌜ now (out .exit) ≡ sheetLeft (writeSheet (now (file .entry)) (length (now (out .entry)))) (now (out .entry)) ⌝ }
+    ensures sheet { λ _. ⌜ now (out .exit) ≡ bytesLeft (writeSheet (now (file .entry)) (length (now (out .entry)))) (now (out .entry)) ⌝ }
 {
     let got = draft::write_sheet(file, out);
     match got {

@@ -2,7 +2,7 @@
 --   Known b p                   the code's plate p was read from the file b: its counts, its length, and every test passed
 -- number-.., bytes-numbers: one-byte numbers are a part of the file. length-plate, length-sheet: the lengths 8 + 2E and 8 + 6E. sheet-..: a sheet's V, E and ports stand where a plate file's do.
 -- ends-part: the ports of the pairs are a part of the file. plate-size, sheet-size: the length of a file that passed tests 1 to 9 (laws, `Tested`).
--- test-passed, test-refused: a test of the code that was passed or refused. known, unread: a reading that gave a plate or a refusal. part-none, part-rest, part-front: the part of a file that the reader hands back as its pairs. part-is, pairs-ends, pairs-length: of a file that was read they are the ports of the pairs.
+-- test-passed, test-refused: a test of the code that was passed or refused. known, read-is, unread: a reading that gave a plate or a refusal. part-none, part-rest, part-front: the part of a file that the reader hands back as its pairs. part-is, pairs-ends, pairs-length: of a file that was read they are the ports of the pairs.
 -- length-copied, copied-front: a copy is as long as what it was copied into, and begins with what was copied. refusal-unique, test-unique, reading-unique: what an answer stands for determines it.
 -- Assumes nothing.
 use mathlib.Core.Path.{_≡_, refl, sym, ap, _∙_}
@@ -123,6 +123,9 @@ module _ (b : List ℕ) (r : Reading) (e : readingOf r b ≡ readPlate b) where
   pub unread : (x : Refusal) → r ≡ Unread x → readPlate b ≡ refused (x .number) (x .place)
   unfolding readingOf
   unread x d = sym e ∙ rw d
+
+  pub read-is : (p : Plate) → r ≡ Read p → readingOf (Read p) b ≡ readPlate b
+  read-is p d = ap (λ (q : Reading). readingOf q b) (sym d) ∙ e
 
   read-given : (p : Plate) → r ≡ Read p → readPlate b ≡ given (record { ports = p .ports; channels = p .channels; ends = endsIn plateFile b })
   unfolding readingOf

@@ -6,6 +6,7 @@ use Prim.Native.Nat.{ℕ, _+_, _-_, _*_, _≤_}
 use native.Mathlib.Omega.{arith}
 use lib.ListN.{length, take, drop, length-append}
 use lib.Seq.{length-take-le, take-at}
+use Rattle.rules.specs.Refusals.{pairsOf}
 use Rattle.plate.specs.declared.Reading.the-variants.{Plate as Read}
 use Rattle.plate.specs.State.{mostDarts}
 use Rattle.plate.proofs.Laws.{Known, known, part-is, pairs-length}
@@ -26,6 +27,15 @@ sized c l e = (omega (arith, plate c .most-channels), omega (arith, plate c .mos
 -- where the function began, seen from behind the laying
 abbrev start : tie.After-lay-pairs → tie.Start
 start c = c .before .before .before .before .before .before .before .before .before .before .before .before .before
+
+-- the pairs are the file's
+abbrev handed : tie.After-lay-pairs → tie.After-pairs
+handed c = c .before .before .before .before
+
+pairs : (c : tie.After-pairs) → let a = c .before .before .before .before .before .before .before .before .before in c .pairs .result .now ≡ pairsOf (a .args .file .now)
+pairs c =
+    let a = c .before .before .before .before .before .before .before .before .before in
+    c .pairs .ensures ∙ part-is _ (Read (a .args .p)) (a .pre .0)
 
 -- the parts that were lent
 most-lent : (c : tie.After-lay-pairs) → length (take (start c .args .p .channels + 2 - start c .args .p .ports) (c .before .before .before .before .before .no-turns3 .result)) ≡ start c .args .p .channels + 2 - start c .args .p .ports
@@ -56,17 +66,8 @@ no-turns-requires-2 c κs = search needs
 no-turns-requires-3 : tie.Need-no-turns-requires-3
 no-turns-requires-3 c κs = search needs
 
-add-end : tie.Need-add-end
-add-end c = omega (arith, plate (c .before .before .before .before .before .before .before .before) .most-channels)
-
-sub-pairs : tie.Need-sub-pairs
-sub-pairs c = search needs
-
-part-pairs-start : tie.Need-part-pairs-start
-part-pairs-start c = search needs
-
-part-pairs-end : tie.Need-part-pairs-end
-part-pairs-end c = omega (arith, plate (c .before .before .before .before .before .before .before .before) .long)
+pairs-requires : tie.Need-pairs-requires
+pairs-requires c κs = search needs
 
 array-borrow-prefix-turns : tie.Need-array-borrow-prefix-turns
 array-borrow-prefix-turns c = sized (c .before .before .before .before .before .before .before .before .before) (c .before .before .before .no-turns .result) (c .before .before .before .no-turns .ensures .1) .0
@@ -87,7 +88,7 @@ slice-aggregate-lay-pairs-3 : tie.Need-slice-aggregate-lay-pairs-3
 slice-aggregate-lay-pairs-3 c = sym (length-take-le _ _ (sized (c .before .before .before .before .before .before .before .before .before .before .before .before) (c .before .before .before .before .no-turns3 .result) (c .before .before .before .before .no-turns3 .ensures .1) .1))
 
 lay-pairs-requires : tie.Need-lay-pairs-requires
-lay-pairs-requires c κs = fits _ _ (plate (c .before .before .before .before .before .before .before .before .before .before .before .before)) _ _ (part-is _ _ (plate (c .before .before .before .before .before .before .before .before .before .before .before .before))) _ _ _ (length-take-le _ _ (sized (c .before .before .before .before .before .before .before .before .before .before .before .before) (c .before .before .before .before .before .before .no-turns .result) (c .before .before .before .before .before .before .no-turns .ensures .1) .0)) (length-take-le _ _ (sized (c .before .before .before .before .before .before .before .before .before .before .before .before) (c .before .before .before .before .before .no-turns2 .result) (c .before .before .before .before .before .no-turns2 .ensures .1) .0)) (length-take-le _ _ (sized (c .before .before .before .before .before .before .before .before .before .before .before .before) (c .before .before .before .before .no-turns3 .result) (c .before .before .before .before .no-turns3 .ensures .1) .1))
+lay-pairs-requires c κs = fits _ _ (plate (c .before .before .before .before .before .before .before .before .before .before .before .before)) _ _ (pairs (c .before .before .before)) _ _ _ (length-take-le _ _ (sized (c .before .before .before .before .before .before .before .before .before .before .before .before) (c .before .before .before .before .before .before .no-turns .result) (c .before .before .before .before .before .before .no-turns .ensures .1) .0)) (length-take-le _ _ (sized (c .before .before .before .before .before .before .before .before .before .before .before .before) (c .before .before .before .before .before .no-turns2 .result) (c .before .before .before .before .before .no-turns2 .ensures .1) .0)) (length-take-le _ _ (sized (c .before .before .before .before .before .before .before .before .before .before .before .before) (c .before .before .before .before .no-turns3 .result) (c .before .before .before .before .no-turns3 .ensures .1) .1))
 
 enum-known-laid : tie.Need-enum-known-laid
 enum-known-laid c = search needs
@@ -95,10 +96,10 @@ enum-known-laid c = search needs
 stuck-at-requires : tie.Need-stuck-at-requires
 stuck-at-requires c κs =
     let l = c .before .before .before .before .before .before in
-    omega (arith, stuck-small _ _ (plate (start l)) _ (part-is _ _ (plate (start l))) _ _ _ _ _ (l .lay-pairs .ensures) (most-lent l) _ _ (c .before .laid .given .1))
+    omega (arith, stuck-small _ _ (plate (start l)) _ (pairs (handed l)) _ _ _ _ _ (l .lay-pairs .ensures) (most-lent l) _ _ (c .before .laid .given .1))
 
 returns : tie.Need-returns
-returns c = let l = c .before .before .before .before .before .before .before in stuck-all _ _ (plate (start l)) _ (part-is _ _ (plate (start l))) _ _ _ _ _ (l .lay-pairs .ensures) (most-lent l) (start l .args .out .now) (start l .pre .1) _ _ (c .before .before .laid .given .1) _ (c .stuck-at .ensures)
+returns c = let l = c .before .before .before .before .before .before .before in stuck-all _ _ (plate (start l)) _ (pairs (handed l)) _ _ _ _ _ (l .lay-pairs .ensures) (most-lent l) (start l .args .out .now) (start l .pre .1) _ _ (c .before .before .laid .given .1) _ (c .stuck-at .ensures)
 
 array-share-prefix-turns : tie.Need-array-share-prefix-turns
 array-share-prefix-turns c = simp length-append (omega (arith, turns-lent (c .before .before .before .before)))
@@ -107,13 +108,13 @@ slice-aggregate-put-sheet : tie.Need-slice-aggregate-put-sheet
 slice-aggregate-put-sheet c = let l = c .before .before .before .before .before in sym (ap length (turns-front l) ∙ turns-lent l)
 
 put-sheet-requires : tie.Need-put-sheet-requires
-put-sheet-requires c κs = let l = c .before .before .before .before .before .before in (ap length (part-is _ _ (plate (start l))) ∙ pairs-length _ _ (plate (start l)), (ap length (turns-front l) ∙ turns-lent l, start l .pre .1))
+put-sheet-requires c κs = let l = c .before .before .before .before .before .before in (ap length (pairs (handed l)) ∙ pairs-length _ _ (plate (start l)), (ap length (turns-front l) ∙ turns-lent l, start l .pre .1))
 
 same-length : tie.Need-same-length
 same-length c = search needs
 
 returns-2 : tie.Need-returns-2
-returns-2 c = let l = c .before .before .before .before .before .before .before .before .before in flat-all _ _ (plate (start l)) _ (part-is _ _ (plate (start l))) _ _ _ _ _ (l .lay-pairs .ensures) (most-lent l) (start l .args .out .now) (start l .pre .1) (unstuck-of (l .lay-pairs .result) (c .before .before .before .before .before .match .keys2)) _ _ (turns-front l) (c .before .before .put-sheet .ensures)
+returns-2 c = let l = c .before .before .before .before .before .before .before .before .before in flat-all _ _ (plate (start l)) _ (pairs (handed l)) _ _ _ _ _ (l .lay-pairs .ensures) (most-lent l) (start l .args .out .now) (start l .pre .1) (unstuck-of (l .lay-pairs .result) (c .before .before .before .before .before .match .keys2)) _ _ (turns-front l) (c .before .before .put-sheet .ensures)
 
 pub lay-sheet-spec : {M : Type 1} → statement M
 lay-sheet-spec =
@@ -125,10 +126,7 @@ lay-sheet-spec =
     no-turns-requires
     no-turns-requires-2
     no-turns-requires-3
-    add-end
-    sub-pairs
-    part-pairs-start
-    part-pairs-end
+    pairs-requires
     array-borrow-prefix-turns
     slice-aggregate-lay-pairs
     array-borrow-prefix-lands

@@ -1,4 +1,4 @@
--- No listing has more than `mostBytes` bytes, whatever the file.
+-- No listing has more than `mostListing` bytes, whatever the file.
 -- laid-few: the listing of a plate that is read. listing-most: the listing of any file.
 -- The cycle's and paths' darts together are at most E, the lands' and the ports' darts at most 2E each, the paths and lands at most E, and every number printed is below 100,000.
 -- Assumes nothing.
@@ -13,7 +13,7 @@ use Rattle.rules.specs.Lists.{from, concat, text}
 use Rattle.rules.specs.Terms.{leaves, dartsAt, laid, ring}
 use Rattle.rules.specs.Refusals.{Answer, given, refused, Plate, readPlate}
 use Rattle.rules.specs.Laying.{Word, FLAT, STUCK, PARTIAL, Outcome, withoutCap, wholePlate, laidOut, firstCycle, landsOfFlat}
-use Rattle.rules.specs.Listing.{fields, line, headLine, cycleLine, pathLine, landLines, portLine, wordLine, sheetLines, laidLines, listingOf, listing}
+use Rattle.rules.specs.Listing.{fields, line, headLine, cycleLine, pathLine, landLines, portLine, wordLine, sheetLines, laidLines, listingOf, listing, mostListing}
 use Rattle.laws.proofs.Counts.{T-flag, count, count-head}
 use Rattle.laws.proofs.Lists.{all-weaken}
 use Rattle.laws.proofs.Links.{laid-lt}
@@ -23,7 +23,6 @@ use Rattle.laws.proofs.Turns.{turn-laid}
 use Rattle.laws.proofs.Counting.{length-concat, paths-most, lands-most, darts-most, flat-laid, rows-lt}
 use Rattle.land.specs.Walks.{Below, BelowAll}
 use Rattle.land.proofs.Laws.{below-all}
-use Rattle.text.specs.Calls.{mostBytes}
 use Rattle.text.proofs.Laid.{dartsAll, Drawn, lined-laid}
 use Rattle.text.proofs.Lengths.{most, below-map, fields-few, line-few, leaves-small, paths-few, lands-few, ports-few, degrees-few}
 
@@ -129,7 +128,7 @@ module _ (b : List ℕ) (p : Plate) (h : readPlate b ≡ given p) (n : ℕ) wher
       go STUCK e = omega arith
       go PARTIAL e = omega arith
 
-  pub laid-few : length (laidLines p cyc o) ≤ mostBytes
+  pub laid-few : length (laidLines p cyc o) ≤ mostListing
   unfolding laidLines
   laid-few =
       omega (
@@ -150,10 +149,10 @@ module _ (b : List ℕ) (p : Plate) (h : readPlate b ≡ given p) (n : ℕ) wher
 
 -- ---- any file
 
-pub listing-most : (b : List ℕ) → length (listing b) ≤ mostBytes
+pub listing-most : (b : List ℕ) → length (listing b) ≤ mostListing
 unfolding listing listingOf text
 listing-most b = go (readPlate b) refl (small-read b)
   where
-    go : (a : Answer Plate) → readPlate b ≡ a → Small a → length (listingOf a) ≤ mostBytes
+    go : (a : Answer Plate) → readPlate b ≡ a → Small a → length (listingOf a) ≤ mostListing
     go (given p) e k = laid-few b p e withoutCap
     go (refused n q) e k = omega (arith, line-few "REFUSED" (n ∷ q ∷ []) (omega (arith, k .0), (omega (arith, k .1), tt)))

@@ -4,13 +4,19 @@ ghost use mathlib.Core.Bool.{true};
 ghost use Prim.Native.Nat.{_+_, _*_, _/_, _≤_};
 ghost use lib.ListN.{length, replicate};
 ghost use Rattle.print.specs.Puts.{Put};
-ghost use Rattle.text.specs.Calls.{mostBytes, listedCount, listedLeft, linesOf, Filed};
+ghost use Rattle.rules.specs.Laying.{bytesLeft, bytesTold};
+ghost use Rattle.rules.specs.Listing.{mostListing, writeListing};
+ghost use Rattle.text.specs.Calls.{listedAnswer, linesOf, Filed};
 use numbers::wide32;
 use plate::Plate;
 use plate::Reading;
+use plate::Refusal;
 
-// The bytes that the call is to be lent. No listing has more.
-pub const MOST: usize = 65536;
+// What the listing call answers: how many bytes it wrote, or a refusal.
+pub enum Listed {
+    Bytes(usize),
+    Refused(Refusal),
+}
 
 // Lays a plate in the slices lent, and writes its listing.
 fn list_laid(
@@ -30,7 +36,7 @@ fn list_laid(
     requires starts { ⌜ length (now play) + 2 ≤ length (now firsts) ⌝ }
     requires sizes { ⌜ length (now play) + 2 ≤ length (now lens) ⌝ }
     requires room { ⌜ 4 * length (now play) + length (now first) + 4 ≤ length (now story) ⌝ }
-    requires lent { ⌜ mostBytes ≤ length (now out) ⌝ }
+    requires lent { ⌜ mostListing ≤ length (now out) ⌝ }
     ensures { λ r. ⌜ Put (linesOf (length (now (first .entry))) (now (ends .entry)) (now (play .entry))) 0 (now (out .entry)) (now (out .exit)) r ⌝ }
 {
     let v = first.len();
@@ -79,7 +85,7 @@ fn list_turns(
     requires starts { ⌜ length (now play) + 2 ≤ length (now firsts) ⌝ }
     requires sizes { ⌜ length (now play) + 2 ≤ length (now lens) ⌝ }
     requires room { ⌜ 4 * length (now play) + v + 4 ≤ length (now story) ⌝ }
-    requires lent { ⌜ mostBytes ≤ length (now out) ⌝ }
+    requires lent { ⌜ mostListing ≤ length (now out) ⌝ }
     ensures { λ r. ⌜ Put (linesOf v (now (ends .entry)) (now (play .entry))) 0 (now (out .entry)) (now (out .exit)) r ⌝ }
 {
     let darts = ends.len();
@@ -102,7 +108,7 @@ fn list_turns(
 // The same for a plate with these pairs, every channel in play, with room made for the lands and the story.
 fn list_pairs(pairs: &[u8], v: usize, out: &mut [u8]) -> usize
     requires filed { ⌜ Filed v (now pairs) (replicate (length (now pairs) / 2) true) ⌝ }
-    requires lent { ⌜ mostBytes ≤ length (now out) ⌝ }
+    requires lent { ⌜ mostListing ≤ length (now out) ⌝ }
     ensures { λ r. ⌜ Put (linesOf v (now (pairs .entry)) (replicate (length (now (pairs .entry)) / 2) true)) 0 (now (out .entry)) (now (out .exit)) r ⌝ }
 {
     let darts = pairs.len();
@@ -124,20 +130,23 @@ fn list_pairs(pairs: &[u8], v: usize, out: &mut [u8]) -> usize
     )
 }
 
-// Writes the listing of a plate file, laid without a cap, to the front of the buffer lent, and answers how many bytes it has; 0, and nothing written, where fewer than MOST bytes are lent.
-pub fn listing(file: &[u8], out: &mut [u8]) -> usize
-    ensures count { λ r. ⌜ r ≡ listedCount (now (file .entry)) (length (now (out .entry))) ⌝ }
-    ensures bytes { λ _. ⌜ now (out .exit) ≡ listedLeft (now (file .entry)) (now (out .entry)) ⌝ }
+// Writes the listing of a plate file, laid without a cap, to the front of the buffer lent; a refused file has a listing, too. Where fewer than MOST_LISTING bytes are lent it refuses, and writes nothing.
+pub fn listing(file: &[u8], out: &mut [u8]) -> Listed
+    ensures answer { λ r. ⌜ listedAnswer r ≡ bytesTold (writeListing (now (file .entry)) (length (now (out .entry)))) ⌝ }
+    ensures bytes { λ _. ⌜ now (out .exit) ≡ bytesLeft (writeListing (now (file .entry)) (length (now (out .entry)))) (now (out .entry)) ⌝ }
 {
-    if out.len() < MOST {
-        return 0;
+    if out.len() < Plate::MOST_LISTING {
+        return Listed::Refused(Refusal {
+            number: 15,
+            place: 0,
+        });
     }
     let got = plate::read(file);
-    match got {
-        Reading::Plate(p) => {
-            let end = Plate::PAIRS_AT + 2 * p.channels;
-            list_pairs(&file[Plate::PAIRS_AT..end], p.ports, out)
-        }
-        Reading::Refused(x) => lines::refused_line(out, 0, wide32(x.number), wide32(x.place)),
-    }
+    let Reading::Plate(p) = got else {
+        let x = plate::refusal_in(got);
+        let count = lines::refused_line(out, 0, wide32(x.number), wide32(x.place));
+        return Listed::Bytes(count);
+    };
+    let count = list_pairs(plate::pairs(file, got), p.ports, out);
+    Listed::Bytes(count)
 }

@@ -11,6 +11,7 @@ use Prim.Native.Nat.{ℕ, _≤_, _<_, _+_}
 use native.Mathlib.Omega.{arith}
 use lib.Dec.{T}
 use lib.ListN.{length, getD, set, length-set}
+use lib.Seq.{getD-append-seam}
 use Rattle.rules.specs.Lists.{at, keep}
 use Rattle.rules.specs.Terms.{leaves, enters, reverse, missing, laid, listed, dartsAt, ring}
 use Rattle.rules.specs.Laying.{State, Choice, back, first, last, lay, laying}
@@ -59,7 +60,7 @@ pub record Changed (ps : List ℕ) (s z : State) : Type 0 where
   -- the two have the darts of the one, and the path's both ways, each once
   pub darts : (w : ℕ) → count w (getD (z .lands) land []) + count w (getD (z .lands) (length (s .lands)) []) ≡ count w (getD (s .lands) land []) + (count w path + count w (back path))
   pub each : (w : ℕ) → count w (getD (s .lands) land []) + (count w path + count w (back path)) ≤ 1
-  -- the state's paths get this one behind them, with this land's number (and the name that the round gave, which is not said here)
+  -- the state's paths get this one behind them, with this land's number (and the name of a fragment, which is not said here: SamePath says it)
   pub name : ℕ
   pub paths : z .paths ≡ s .paths ++ (record { fragment = name; land = land; darts = path } ∷ [])
   -- ---- the turns: they change only at ports of the path
@@ -75,11 +76,6 @@ pub record Changed (ps : List ℕ) (s z : State) : Type 0 where
   pub rings : (w : ℕ) → T (laid (s .turns) w)
       → keep (laid (s .turns)) (ring (z .turns) (length (keep (laid (z .turns)) (dartsAt ps (leaves ps w)))) w)
       ≡ ring (s .turns) (length (keep (laid (s .turns)) (dartsAt ps (leaves ps w)))) w
-
--- the one that is put behind
-getD-snoc : (ls : List (List ℕ)) (m : List ℕ) → getD (ls ++ (m ∷ [])) (length ls) [] ≡ m
-getD-snoc [] m = refl
-getD-snoc (l ∷ ls) m = getD-snoc ls m
 
 module _ (ps : List ℕ) (s z : State) (K : Sound (s .turns) (s .lands)) (L : Sound (z .turns) (z .lands)) (D : Parted ps s z) (C : All (Closed ps) (s .lands)) (long : length (s .turns) ≡ length ps) where
   abbrev t : List ℕ
@@ -118,7 +114,7 @@ module _ (ps : List ℕ) (s z : State) (K : Sound (s .turns) (s .lands)) (L : So
   land-made =
       ap (λ (k : List (List ℕ)). getD k (length (s .lands)) []) (parted-lands ps s z D)
       ∙ ap (λ (k : ℕ). getD (set (s .lands) (D .land) (listed (way ++ D .b ∷ D .n)) ++ (listed (back way ++ D .a ∷ D .m) ∷ [])) k []) (sym (length-set (s .lands) (D .land) (listed (way ++ D .b ∷ D .n))))
-      ∙ getD-snoc (set (s .lands) (D .land) (listed (way ++ D .b ∷ D .n))) (listed (back way ++ D .a ∷ D .m))
+      ∙ getD-append-seam (set (s .lands) (D .land) (listed (way ++ D .b ∷ D .n))) (listed (back way ++ D .a ∷ D .m)) [] []
 
   pub changed-parted : Ringed ps t → Changed ps s z
   unfolding first

@@ -1,8 +1,8 @@
 -- The demands, for an auditor to read from top to bottom: a sentence, the statement that says it, and where its proof stands.
 -- b is any file, p the plate that it is read into, n the number of paths allowed; nothing else is supposed of them. `Four` shows such a file.
 --   t, ls               after at most n paths: the turns, and the lands in number order
---   laidPortsOf, laidChannels (Counting), inOrder (InOrder), Ended (Verdicts), PathLaid (PathMeaning), FragmentsMean (FragmentMeaning), Changed (Changes), Exact and its rows (RefusalTable): read them where they stand
--- The statements hold of any set of channels in play that is connected without a cut port among the ports it touches (Rounds.Layable, Reaches.Wide), under the names that are cited here: laying-ended, laying-path, changed-laying, once-land, oneRing-laying, landsOf-kept, ports-counted, ..
+--   laidPortsOf, laidChannels (Counting), inOrder (InOrder), Ended (Verdicts), PathLaid (PathMeaning), FragmentsMean (FragmentMeaning), Changed (Changes), SamePath, Exact and its rows (RefusalTable): read them where they stand
+-- The statements hold of any set of channels in play that is connected without a cut port among the ports it touches (Rounds.Layable, Reaches.Wide), under the names that are cited here: laying-ended, laying-stays, laying-path, cycle-lands, same-path, changed-laying, once-land, oneRing-laying, landsOf-kept, ports-counted, ..
 -- The fakes of document 01, "How tight the statements are": each is named at the statement that excludes it.
 -- Assumes nothing.
 use mathlib.Core.Path.{_≡_, subst, sym, ap, _∙_}
@@ -13,10 +13,10 @@ use Prim.Native.Nat.{ℕ, suc, _+_, _≤_, _<_}
 use lib.Dec.{T}
 use lib.ListN.{length, getD}
 use Rattle.rules.specs.Lists.{at}
-use Rattle.rules.specs.Terms.{leaves, walk, landsOf, dartsAt}
+use Rattle.rules.specs.Terms.{leaves, walk, listed, landsOf, dartsAt}
 use Rattle.rules.specs.Files.{sheetFile, fileLength, fileOf}
 use Rattle.rules.specs.Refusals.{given, passed, Plate, readPlate, readTurns, oneRing, brokenRing, turnTests}
-use Rattle.rules.specs.Laying.{FLAT, STUCK, PARTIAL, Fragment, first, lay, start, firstChannel, firstCycle, laying, withoutCap, wholePlate, laidOut, landsOfFlat, layPlate}
+use Rattle.rules.specs.Laying.{FLAT, STUCK, PARTIAL, Fragment, back, first, lay, start, firstChannel, firstCycle, laying, withoutCap, wholePlate, laidOut, landsOfFlat, layPlate}
 use Rattle.rules.specs.Sheets.{judged, judgeSheet, readSheet, writeSheet}
 use Rattle.laws.proofs.Tests.{not-not}
 use Rattle.laws.proofs.Counts.{count}
@@ -32,8 +32,9 @@ use Rattle.laws.proofs.Visits.{once-land}
 use Rattle.laws.proofs.Rings.{unbroken-laying}
 use Rattle.laws.proofs.Changes.{Changed, changed-lay}
 use Rattle.laws.proofs.FragmentMeaning.{IsFragment, FragmentsMean, fragments-laidOut}
-use Rattle.laws.proofs.Verdicts.{AllLaid, Barred, StuckAt, OneWord, Ended, ended-laidOut, whole-laidOut, wide, partial-ready, judge-chosen, laying-next-state}
-use Rattle.laws.proofs.PathMeaning.{PathLaid, CycleMeans, laidOut-path, laidOut-cycle}
+use Rattle.laws.proofs.Verdicts.{AllLaid, Barred, StuckAt, OneWord, Ended, ended-laidOut, whole-laidOut, wide, partial-ready, judge-chosen, laying-over, laying-stays, laying-end, laying-next-state}
+use Rattle.laws.proofs.PathMeaning.{PathLaid, CycleMeans, laidOut-path, laidOut-cycle, laidOut-lands}
+use Rattle.laws.proofs.SamePath.{SamePath, same-path}
 use Rattle.laws.proofs.RefusalTable.{Exact, Passes, Refuses, exact-either, plateRows, sheetRows, sheetIn, lentRow, stuckRow, layNeeds, writeNeeds, readNeeds, readPlate-exact, readTurns-exact, layPlate-exact, writeSheet-exact, readSheet-exact, judgeSheet-exact}
 use Rattle.laws.proofs.RoundTrip.{turns-read, sheet-judged, write-word}
 
@@ -126,6 +127,24 @@ module _ (b : List ℕ) (p : Plate) (h : readPlate b ≡ given p) (n : ℕ) wher
   pub whole-not-partial : laidOut p withoutCap .word ≢ PARTIAL
   whole-not-partial = whole-laidOut b p h
 
+  -- Nothing after the end: where n paths leave nothing to lay, one more allowed gives the same outcome, and so does any number more.
+  pub nothing-after : laidOut p n .word ≢ PARTIAL → laidOut p (suc n) ≡ laidOut p n
+  unfolding laidOut
+  nothing-after = laying-over (p .ports) (p .ends) (wholePlate p) n
+
+  pub nothing-ever : (m : ℕ) → n ≤ m → laidOut p n .word ≢ PARTIAL → laidOut p m ≡ laidOut p n
+  unfolding laidOut
+  nothing-ever m = laying-stays (p .ports) (p .ends) (wholePlate p) n m
+
+  -- So what is laid without a cap, which is written and listed, is where the story that is told path by path ends.
+  pub end-of-story : laidOut p n .word ≢ PARTIAL → laidOut p withoutCap ≡ laidOut p n
+  unfolding laidOut
+  end-of-story w = laying-end (p .ports) (p .ends) (wholePlate p) n withoutCap w whole-not-partial
+
+  -- There are never more paths than n.
+  pub paths-allowed : length (laidOut p n .state .paths) ≤ n
+  paths-allowed = ended .most
+
   -- The fragments are the connected sets of unlaid ports with every channel that touches them, and the single channels between laid ports; names, contacts and admissible lands are as document 01 says.
   pub fragments : FragmentsMean (p .ports) (p .ends) (wholePlate p) (laidOut p n .state)
   fragments = fragments-laidOut b p h n
@@ -135,6 +154,11 @@ module _ (b : List ℕ) (p : Plate) (h : readPlate b ≡ given p) (n : ℕ) wher
       × CycleMeans (p .ports) (p .ends) (wholePlate p) 0 (firstCycle (p .ports) (p .ends) (wholePlate p))
       × (laidOut p 0 .state ≡ start (p .ports) (p .ends) (wholePlate p) 0)
   first-cycle = laidOut-cycle b p h
+
+  -- It leaves two lands, itself and itself walked backwards: land 0 holds dart 0, land 1 holds dart 1. (A later path may take dart 0 into a land with a new number.)
+  pub first-lands : (laidOut p 0 .state .lands ≡ listed (firstCycle (p .ports) (p .ends) (wholePlate p)) ∷ listed (back (firstCycle (p .ports) (p .ends) (wholePlate p))) ∷ [])
+      × (1 ≤ count 0 (getD (laidOut p 0 .state .lands) 0 [])) × (1 ≤ count 1 (getD (laidOut p 0 .state .lands) 1 []))
+  first-lands = laidOut-lands b p h
 
   -- Where more can be laid, the next path is the one that document 01 says: its fragment, its land, its ends, fewest channels first, then smallest list of ports, over all paths.
   pub next-path : laidOut p n .word ≡ PARTIAL → PathLaid (p .ports) (p .ends) (wholePlate p) (laidOut p n .state) (laidOut p (suc n) .state)
@@ -156,6 +180,10 @@ module _ (b : List ℕ) (p : Plate) (h : readPlate b ≡ given p) (n : ℕ) wher
   next-changes =
       let A = accepted b p h in
       changed-laying (p .ports) (p .ends) (wholePlate p) (layable p A) (wide p A) 0 (channel-play p A) n
+
+  -- It is one path: that of next-path and that of next-changes have the same name, land, darts and ends.
+  pub next-same : (w : laidOut p n .word ≡ PARTIAL) → SamePath (p .ports) (p .ends) (wholePlate p) (laidOut p n .state) (laidOut p (suc n) .state) (next-path w) (next-changes w)
+  next-same w = same-path (p .ports) (p .ends) (wholePlate p) (laidOut p n .state) (laidOut p (suc n) .state) (next-path w) (next-changes w)
 
   -- No land visits a port twice.
   pub visits-once : (i : ℕ) → i < length ls → (q : ℕ) → count q (map (leaves (p .ends)) (getD ls i [])) ≤ 1

@@ -35,6 +35,7 @@ pub mod FragmentMeaning
 pub mod Verdicts
 pub mod RoundTrip
 pub mod PathMeaning
+pub mod SamePath
 pub mod RefusalMeaning
 pub mod RefusalTable
 pub mod Small

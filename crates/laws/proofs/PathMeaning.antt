@@ -7,7 +7,7 @@
 --   PathMeans np ps on s f x y q    x and y are the two smallest contacts of f, and q is the route between them with the fewest channels and, of those, the smallest list of ports
 --   PathLaid np ps on s t       t is s with one path more: for the fragment that is taken, through its lowest admissible land
 --   CycleMeans np ps on c l     l is channel c from its first end to its second, and then the way back with the fewest channels and, of those, the smallest list of ports
--- path-means: the path of a fragment. judge-path: the path of the choice that is made. laying-path, laidOut-path: whatever the number of paths. cycle-means, laidOut-cycle: the first cycle.
+-- path-means: the path of a fragment. judge-path: the path of the choice that is made. laying-path, laidOut-path: whatever the number of paths. cycle-means, laidOut-cycle: the first cycle. cycle-lands, laidOut-lands: its two lands.
 -- Assumes nothing.
 use mathlib.Core.Path.{_≡_, refl, subst, sym, _∙_, ap}
 use mathlib.Core.Logic.{_≢_, _⊎_, inl, inr, ⊎-elim, _↔_}
@@ -19,7 +19,7 @@ use native.Mathlib.Omega.{arith}
 use lib.Dec.{T, eqb, eqb-refl, T-not}
 use lib.ListN.{length, getD, length-map}
 use Rattle.rules.specs.Lists.{seek, at}
-use Rattle.rules.specs.Terms.{leaves, reverse, enters, laid}
+use Rattle.rules.specs.Terms.{leaves, reverse, enters, laid, listed}
 use Rattle.rules.specs.Ways.{path, inPlay}
 use Rattle.rules.specs.Refusals.{given, Plate, readPlate}
 use Rattle.rules.specs.Laying.{State, Fragment, Choice, ready, PARTIAL, back, admissible, within, fragmentAt, contactsOf, choiceOf, lay, judge, cycle, start, firstChannel, firstCycle, laying, wholePlate, laidOut}
@@ -326,8 +326,9 @@ module _ (np : ℕ) (ps : List ℕ) (on : List Bool) (G : Layable np ps on) (man
             (path-least np ps okC (λ p. true) b a (darts-of ps (G .few)) (whole-of ps okC dart) (λ d k. G .inn d (dart d k)) aIn w (round-found b w a (h .0) (h .1)) (sym e)));
       }
 
-  -- Land 0 holds its first dart, land 1 the reverse.
-  pub cycle-lands : (length (start np ps on c .lands) ≡ 2) × (1 ≤ count (2 * c) (getD (start np ps on c .lands) 0 [])) × (1 ≤ count (reverse (2 * c)) (getD (start np ps on c .lands) 1 []))
+  -- Land 0 is the first cycle and holds its first dart; land 1 is the same walked backwards and holds the reverse.
+  pub cycle-lands : (start np ps on c .lands ≡ listed (cycle np ps on c) ∷ listed (back (cycle np ps on c)) ∷ [])
+      × (1 ≤ count (2 * c) (getD (start np ps on c .lands) 0 [])) × (1 ≤ count (reverse (2 * c)) (getD (start np ps on c .lands) 1 []))
   unfolding start cycle
   cycle-lands = (
     refl,
@@ -352,4 +353,22 @@ laidOut-cycle b p h =
       e,
       subst (λ (c : ℕ). CycleMeans np ps on 0 (cycle np ps on c)) (sym e) (cycle-means np ps on (layable p A) (wide p A) 0 (channel-play p A)),
       rounds-stay np ps on (start np ps on (firstChannel np ps on)) ∙ ap (start np ps on) e,
+    )
+
+-- Its two lands: land 0 holds dart 0, land 1 holds dart 1.
+pub laidOut-lands : (b : List ℕ) (p : Plate) → readPlate b ≡ given p
+    → (laidOut p 0 .state .lands ≡ listed (firstCycle (p .ports) (p .ends) (wholePlate p)) ∷ listed (back (firstCycle (p .ports) (p .ends) (wholePlate p))) ∷ [])
+    × (1 ≤ count 0 (getD (laidOut p 0 .state .lands) 0 [])) × (1 ≤ count 1 (getD (laidOut p 0 .state .lands) 1 []))
+unfolding firstCycle reverse
+laidOut-lands b p h =
+    let A = accepted b p h in
+    let np = p .ports in
+    let ps = p .ends in
+    let on = wholePlate p in
+    let C = laidOut-cycle b p h in
+    let lands : laidOut p 0 .state .lands ≡ start np ps on 0 .lands = ap (λ (s : State). s .lands) (C .2) in
+    let L = cycle-lands np ps on (layable p A) (wide p A) 0 (channel-play p A) in (
+      lands ∙ L .0 ∙ ap (λ (c : ℕ). listed (cycle np ps on c) ∷ listed (back (cycle np ps on c)) ∷ []) (sym (C .0)),
+      subst (λ (ls : List (List ℕ)). 1 ≤ count 0 (getD ls 0 [])) (sym lands) (L .1),
+      subst (λ (ls : List (List ℕ)). 1 ≤ count 1 (getD ls 1 [])) (sym lands) (L .2),
     )

@@ -12,15 +12,15 @@
 --   Means np ps on s v          what the judgement v of s says
 --   Ended np ps on n o          all of document 01 about the word and the name of the outcome o, n paths being allowed
 --   fs, pick                    of a state: its fragments, and the choice of a fragment
--- rounds-say: the word and the name are what the last state's judgement gives. laying-next, laying-next-state: n paths allowed against n + 1. judge-means: what a judgement means. lay-grows, first-laid: what is laid stays laid. kept-fewer: there are fewer paths than channels.
+-- rounds-say: the word and the name are what the last state's judgement gives. laying-next, laying-next-state: n paths allowed against n + 1. laying-over, laying-stays, laying-end: nothing after the end. judge-means: what a judgement means. lay-grows, first-laid: what is laid stays laid. kept-fewer: there are fewer paths than channels.
 -- laying-ended, laying-whole: how laying ends, and that as many paths as channels always end it. ended-laidOut, whole-laidOut: the same of every plate that is read.
 -- Assumes nothing.
 use mathlib.Core.Path.{_≡_, refl, subst, subst₂, sym, _∙_, ap}
 use mathlib.Core.Logic.{_≢_, _⊎_, inl, inr, ⊎-elim, _↔_}
 use mathlib.Core.Bool.{Bool, not, true, false, cond, _||_}
 use mathlib.Core.List.{List, [], _∷_, _++_, map}
-use Prim.Native.Nat.{ℕ, zero, suc, _+_, _*_, _<_, _≤_}
-use native.Mathlib.Nat.{not-suc-le-zero}
+use Prim.Native.Nat.{ℕ, zero, suc, _+_, _-_, _*_, _<_, _≤_}
+use native.Mathlib.Nat.{not-suc-le-zero, zero-add, suc-add}
 use native.Mathlib.Decide.{decLt}
 use native.Mathlib.Omega.{arith}
 use lib.Dec.{T, eqb, eqb→eq, T-not}
@@ -154,6 +154,28 @@ module _ (np : ℕ) (ps : List ℕ) (on : List Bool) where
   pub laying-next : (n : ℕ) → Next (laying np ps on n) (laying np ps on (suc n))
   unfolding laying
   laying-next n = rounds-next n (start np ps on (firstChannel np ps on))
+
+  -- ---- nothing after the end
+
+  -- where n paths leave nothing to lay, one more allowed changes nothing
+  pub laying-over : (n : ℕ) → laying np ps on n .word ≢ PARTIAL → laying np ps on (suc n) ≡ laying np ps on n
+  laying-over n w = ⊎-elim (λ h. absurd (w (h .0))) (λ h. h .1) (laying-next n)
+
+  -- nor does any number more
+  pub laying-stays : (n m : ℕ) → n ≤ m → laying np ps on n .word ≢ PARTIAL → laying np ps on m ≡ laying np ps on n
+  laying-stays n m h w = let e : m ≡ (m - n) + n = omega arith in ap (laying np ps on) e ∙ more (m - n)
+    where
+      more : (k : ℕ) → laying np ps on (k + n) ≡ laying np ps on n
+      more zero = ap (laying np ps on) (zero-add n)
+      more (suc k) = ap (laying np ps on) (suc-add k n) ∙ laying-over (k + n) (subst (λ (o : Outcome). o .word ≢ PARTIAL) (sym (more k)) w) ∙ more k
+
+  -- so there is one end
+  pub laying-end : (n m : ℕ) → laying np ps on n .word ≢ PARTIAL → laying np ps on m .word ≢ PARTIAL → laying np ps on m ≡ laying np ps on n
+  laying-end n m w v = go (decLt m n)
+    where
+      go : Dec (m < n) → laying np ps on m ≡ laying np ps on n
+      go (yes l) = sym (laying-stays m n (omega arith) v)
+      go (no l) = laying-stays n m (omega arith) w
 
   -- Whatever the number of paths and the state to begin with: the word and the name are what the last state's judgement says.
   pub rounds-say : (n : ℕ) (s : State) → Says (judge np ps on (rounds np ps on n s .state)) (rounds np ps on n s)

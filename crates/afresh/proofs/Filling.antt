@@ -13,9 +13,10 @@ use Rattle.rules.specs.Terms.{missing, landsOf}
 use Rattle.rules.specs.Laying.{filled}
 use Rattle.laws.proofs.Tests.{T-isnt}
 use Rattle.laws.proofs.Sets.{at-none}
+use Rattle.laws.proofs.Permuting.{Permuting}
+use Rattle.laws.proofs.Gathering.{lands-landsOf}
 use Rattle.plate.specs.State.{mostDarts}
-use Rattle.afresh.specs.Walks.{Walkable, noDartMarks}
-use Rattle.afresh.proofs.Gathering.{lands-landsOf}
+use Rattle.afresh.specs.Marks.{noDartMarks}
 
 pub unmarked : (s : List Bool) → s ≡ noDartMarks → (d : ℕ) → at s d ≡ false
 unfolding noDartMarks
@@ -26,7 +27,7 @@ drop-replicate zero n x = let e : n ≡ n - 0 = omega arith in ap (λ (m : ℕ).
 drop-replicate (suc k) zero x = let e : 0 ≡ 0 - suc k = omega arith in ap (λ (m : ℕ). replicate m x) e
 drop-replicate (suc k) (suc n) x = drop-replicate k n x ∙ (let e : n - k ≡ suc n - suc k = omega arith in ap (λ (m : ℕ). replicate m x) e)
 
-module _ (t : List ℕ) (w : Walkable t) where
+module _ (t : List ℕ) (w : Permuting t) where
   pub darts-filled : (o darts : List ℕ) → darts ≡ concat (landsOf t) ++ drop (length t) o → darts ≡ filled (concat (landsOf t)) missing (length t) o
   unfolding filled
   darts-filled o darts e =

@@ -1,5 +1,3 @@
-pub mod Walks
-pub mod Gathering
 pub mod Walking
 pub mod Listing
 pub mod Filling

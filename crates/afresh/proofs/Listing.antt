@@ -17,9 +17,10 @@ use Rattle.rules.specs.Lists.{from, at, concat}
 use Rattle.rules.specs.Terms.{gather, landsOf}
 use Rattle.laws.proofs.Counts.{flag, flag-T, is-self, count}
 use Rattle.laws.proofs.Sound.{countAll, count-snoc}
+use Rattle.laws.proofs.Permuting.{Permuting, landOf}
+use Rattle.laws.proofs.Gathering.{Gathered, gathered-none, gathered-old, gathered-new, gathered-room, gathered-few, lands-gathered, gather-old, gather-new, gather-over, dart-laid}
 use Rattle.reach.proofs.Meeting.{flag-set}
-use Rattle.afresh.specs.Walks.{Walkable, landFrom, marked}
-use Rattle.afresh.proofs.Gathering.{Gathered, gathered-none, gathered-old, gathered-new, gathered-room, gathered-few, lands-gathered, gather-old, gather-new, gather-over, dart-laid}
+use Rattle.afresh.specs.Marks.{marked}
 
 -- ---- marks
 
@@ -97,7 +98,7 @@ module _ (t o lo : List ℕ) (m : ℕ) where
     seen-long = e;
   }
 
-  module _ (w : Walkable t) (darts lengths : List ℕ) (seen : List Bool) (lands n d : ℕ) (ls : List (List ℕ)) (g : Listed t o lo m darts lengths seen lands n d ls) (b : d < length t) where
+  module _ (w : Permuting t) (darts lengths : List ℕ) (seen : List Bool) (lands n d : ℕ) (ls : List (List ℕ)) (g : Listed t o lo m darts lengths seen lands n d ls) (b : d < length t) where
     pub old : at seen d ≡ true → Listed t o lo m darts lengths seen lands n (d + 1) ls
     old e =
         let h : 1 ≤ countAll d ls = omega (arith, g .marks d, ap flag e) in
@@ -119,21 +120,21 @@ module _ (t o lo : List ℕ) (m : ℕ) where
       none : countAll d ls ≡ 0
       none = sym (g .marks d) ∙ ap flag e
 
-      more : Gathered t (d + 1) (ls ++ (landFrom t d ∷ []))
+      more : Gathered t (d + 1) (ls ++ (landOf t d ∷ []))
       more = gathered-new t w d ls (g .gathered) b none
 
       -- there is place for the land, and for its length
-      pub new-room : n + length (landFrom t d) ≤ length t
-      new-room = omega (arith, g .end-at, gathered-room t (d + 1) (ls ++ (landFrom t d ∷ [])) more, ap length (concat-snoc ls (landFrom t d)), length-append (concat ls) (landFrom t d))
+      pub new-room : n + length (landOf t d) ≤ length t
+      new-room = omega (arith, g .end-at, gathered-room t (d + 1) (ls ++ (landOf t d ∷ [])) more, ap length (concat-snoc ls (landOf t d)), length-append (concat ls) (landOf t d))
 
       pub new-few : 2 * (lands + 1) ≤ length t
-      new-few = omega (arith, g .number, gathered-few t (d + 1) (ls ++ (landFrom t d ∷ [])) more, length-snoc ls (landFrom t d))
+      new-few = omega (arith, g .number, gathered-few t (d + 1) (ls ++ (landOf t d ∷ [])) more, length-snoc ls (landOf t d))
 
       pub new : length t ≤ length o → length t ≤ 2 * length lo → length t ≤ m
-          → (end x : ℕ) (darts′ : List ℕ) (seen′ : List Bool) → end ≡ n + length (landFrom t d) → darts′ ≡ take n darts ++ landFrom t d ++ drop (n + length (landFrom t d)) darts → seen′ ≡ marked (landFrom t d) seen → x ≡ end - n
-          → Listed t o lo m darts′ (set lengths lands x) seen′ (lands + 1) end (d + 1) (ls ++ (landFrom t d ∷ []))
+          → (end x : ℕ) (darts′ : List ℕ) (seen′ : List Bool) → end ≡ n + length (landOf t d) → darts′ ≡ take n darts ++ landOf t d ++ drop (n + length (landOf t d)) darts → seen′ ≡ marked (landOf t d) seen → x ≡ end - n
+          → Listed t o lo m darts′ (set lengths lands x) seen′ (lands + 1) end (d + 1) (ls ++ (landOf t d ∷ []))
       new ho hl hm end x darts′ seen′ pe pd ps px =
-          let l = landFrom t d in
+          let l = landOf t d in
           record {
             most = omega arith;
             rest = sym (gather-new t d (length t) ls b (dart-laid t w d b) none) ∙ g .rest;
@@ -155,28 +156,28 @@ module _ (t o lo : List ℕ) (m : ℕ) where
             seen-long = ap length ps ∙ length-marked l seen ∙ g .seen-long;
           }
         where
-          longer : length (map length ls) + 1 ≡ length (ls ++ (landFrom t d ∷ []))
-          longer = omega (arith, length-map ls length, length-snoc ls (landFrom t d))
+          longer : length (map length ls) + 1 ≡ length (ls ++ (landOf t d ∷ []))
+          longer = omega (arith, length-map ls length, length-snoc ls (landOf t d))
 
-          size : x ≡ length (landFrom t d)
+          size : x ≡ length (landOf t d)
           size = omega arith
 
-          put : darts′ ≡ concat (ls ++ (landFrom t d ∷ [])) ++ drop (length (concat (ls ++ (landFrom t d ∷ [])))) o
+          put : darts′ ≡ concat (ls ++ (landOf t d ∷ [])) ++ drop (length (concat (ls ++ (landOf t d ∷ [])))) o
           put =
               pd
-              ∙ ap (λ (k : List ℕ). take n k ++ landFrom t d ++ drop (n + length (landFrom t d)) k) (g .put)
-              ∙ ap (λ (k : ℕ). take k (concat ls ++ drop (length (concat ls)) o) ++ landFrom t d ++ drop (k + length (landFrom t d)) (concat ls ++ drop (length (concat ls)) o)) (g .end-at)
-              ∙ put-more (concat ls) o (landFrom t d)
-              ∙ ap (λ (k : List ℕ). k ++ drop (length k) o) (sym (concat-snoc ls (landFrom t d)))
+              ∙ ap (λ (k : List ℕ). take n k ++ landOf t d ++ drop (n + length (landOf t d)) k) (g .put)
+              ∙ ap (λ (k : ℕ). take k (concat ls ++ drop (length (concat ls)) o) ++ landOf t d ++ drop (k + length (landOf t d)) (concat ls ++ drop (length (concat ls)) o)) (g .end-at)
+              ∙ put-more (concat ls) o (landOf t d)
+              ∙ ap (λ (k : List ℕ). k ++ drop (length k) o) (sym (concat-snoc ls (landOf t d)))
 
-          room : length (concat (ls ++ (landFrom t d ∷ [])) ++ drop (length (concat (ls ++ (landFrom t d ∷ [])))) o) ≡ length o
-          room = simp (length-append, length-drop) (omega (arith, gathered-room t (d + 1) (ls ++ (landFrom t d ∷ [])) more))
+          room : length (concat (ls ++ (landOf t d ∷ [])) ++ drop (length (concat (ls ++ (landOf t d ∷ [])))) o) ≡ length o
+          room = simp (length-append, length-drop) (omega (arith, gathered-room t (d + 1) (ls ++ (landOf t d ∷ [])) more))
 
-          once : (z : ℕ) → flag (at seen z) + count z (landFrom t d) ≤ 1
-          once z = omega (arith, g .marks z, count-snoc z ls (landFrom t d), more .once z)
+          once : (z : ℕ) → flag (at seen z) + count z (landOf t d) ≤ 1
+          once z = omega (arith, g .marks z, count-snoc z ls (landOf t d), more .once z)
 
-          inside : (z : ℕ) → 1 ≤ count z (landFrom t d) → z < m
-          inside z k = omega (arith, more .inside z (omega (arith, count-snoc z ls (landFrom t d))))
+          inside : (z : ℕ) → 1 ≤ count z (landOf t d) → z < m
+          inside z k = omega (arith, more .inside z (omega (arith, count-snoc z ls (landOf t d))))
 
   module _ (darts lengths : List ℕ) (seen : List Bool) (lands n d : ℕ) (ls : List (List ℕ)) (g : Listed t o lo m darts lengths seen lands n d ls) (b : length t ≤ d) where
     all : ls ≡ landsOf t

@@ -15,22 +15,22 @@ use lib.Seq.{sets, sets-eq}
 use Rattle.rules.specs.Terms.{next}
 use Rattle.laws.proofs.Counts.{is-self, count, absent-head, absent-rest, count-head}
 use Rattle.laws.proofs.Runs.{Run}
-use Rattle.afresh.specs.Walks.{landFrom, marked}
-use Rattle.afresh.proofs.Walks.{Round}
+use Rattle.laws.proofs.Permuting.{landOf, LandOf}
+use Rattle.afresh.specs.Marks.{marked}
 
 pub record Walk (t : List ℕ) (a : ℕ) (o : List ℕ) (s : List Bool) (n : ℕ) (darts : List ℕ) (seen : List Bool) (d k : ℕ) (l : List ℕ) : Type 0 where
   pub run : Run t d l a
   -- a does not come again before the end
   pub none : count a l ≡ 0
   pub inside : (z : ℕ) → 1 ≤ count z (d ∷ l) → z < length t
-  pub room : k + length (d ∷ l) ≡ n + length (landFrom t a)
-  pub put : sets darts k (d ∷ l) ≡ sets o n (landFrom t a)
-  pub mark : marked (d ∷ l) seen ≡ marked (landFrom t a) s
+  pub room : k + length (d ∷ l) ≡ n + length (landOf t a)
+  pub put : sets darts k (d ∷ l) ≡ sets o n (landOf t a)
+  pub mark : marked (d ∷ l) seen ≡ marked (landOf t a) s
   pub darts-long : length darts ≡ length o
   pub seen-long : length seen ≡ length s
 
 module _ (t : List ℕ) (a : ℕ) (o : List ℕ) (s : List Bool) (n : ℕ) where
-  pub start : (l : List ℕ) → Round t a l → Walk t a o s n o s a n l
+  pub start : (l : List ℕ) → LandOf t a l → Walk t a o s n o s a n l
   unfolding count
   start l r = record {
     run = r .run;
@@ -48,7 +48,7 @@ module _ (t : List ℕ) (a : ℕ) (o : List ℕ) (s : List Bool) (n : ℕ) where
     pub dart-in : (l : List ℕ) → Walk t a o s n darts seen d k l → d < length t
     dart-in l w = w .inside d (count-head d l)
 
-    pub place-in : (l : List ℕ) → Walk t a o s n darts seen d k l → n + length (landFrom t a) ≤ length o → k < length darts
+    pub place-in : (l : List ℕ) → Walk t a o s n darts seen d k l → n + length (landOf t a) ≤ length o → k < length darts
     place-in l w h = omega (arith, w .room, w .darts-long)
 
     pub step : (l : List ℕ) → Walk t a o s n darts seen d k l → next t d ≢ a → (m : List ℕ) × Walk t a o s n (set darts k d) (set seen d true) (next t d) (k + 1) m
@@ -68,16 +68,16 @@ module _ (t : List ℕ) (a : ℕ) (o : List ℕ) (s : List Bool) (n : ℕ) where
       }),
     )
 
-    pub stop : (l : List ℕ) → Walk t a o s n darts seen d k l → next t d ≡ a → n + length (landFrom t a) ≤ length o
-        → (k + 1 ≡ n + length (landFrom t a)) × (set darts k d ≡ take n o ++ landFrom t a ++ drop (n + length (landFrom t a)) o) × (set seen d true ≡ marked (landFrom t a) s)
+    pub stop : (l : List ℕ) → Walk t a o s n darts seen d k l → next t d ≡ a → n + length (landOf t a) ≤ length o
+        → (k + 1 ≡ n + length (landOf t a)) × (set darts k d ≡ take n o ++ landOf t a ++ drop (n + length (landOf t a)) o) × (set seen d true ≡ marked (landOf t a) s)
     unfolding marked
-    stop [] w e h = (omega (arith, w .room), w .put ∙ sets-eq (landFrom t a) o n h, w .mark)
+    stop [] w e h = (omega (arith, w .room), w .put ∙ sets-eq (landOf t a) o n h, w .mark)
     stop (x ∷ l) w e h = absurd (absent-head a x l (w .none) (sym e ∙ w .run .0))
 
     -- the same, as the code says it: x is d as it is put, and e is the dart after d
     pub step-as : (l : List ℕ) → Walk t a o s n darts seen d k l → (x e : ℕ) → x ≡ d → e ≡ next t d → (e ≡ a → ⊥) → (m : List ℕ) × Walk t a o s n (set darts k x) (set seen d true) e (k + 1) m
     step-as l w x e p q ne = rw (p, q) (step l w (λ h. ne (q ∙ h)))
 
-    pub stop-as : (l : List ℕ) → Walk t a o s n darts seen d k l → (x : ℕ) → x ≡ d → next t d ≡ a → n + length (landFrom t a) ≤ length o
-        → (k + 1 ≡ n + length (landFrom t a)) × (set darts k x ≡ take n o ++ landFrom t a ++ drop (n + length (landFrom t a)) o) × (set seen d true ≡ marked (landFrom t a) s)
+    pub stop-as : (l : List ℕ) → Walk t a o s n darts seen d k l → (x : ℕ) → x ≡ d → next t d ≡ a → n + length (landOf t a) ≤ length o
+        → (k + 1 ≡ n + length (landOf t a)) × (set darts k x ≡ take n o ++ landOf t a ++ drop (n + length (landOf t a)) o) × (set seen d true ≡ marked (landOf t a) s)
     stop-as l w x p e h = let r = stop l w e h in (r .0, ap (set darts k) p ∙ r .1, r .2)

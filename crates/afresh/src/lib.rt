@@ -7,21 +7,22 @@ ghost use lib.ListN.{length, take, drop};
 ghost use Rattle.rules.specs.Lists.{at, concat};
 ghost use Rattle.rules.specs.Terms.{missing, landsOf};
 ghost use Rattle.rules.specs.Laying.{filled};
+ghost use Rattle.laws.proofs.Permuting.{Permuting, landOf};
 ghost use Rattle.plate.specs.State.{mostDarts};
-ghost use Rattle.afresh.specs.Walks.{Walkable, landFrom, marked, noDartMarks};
+ghost use Rattle.afresh.specs.Marks.{marked, noDartMarks};
 use numbers::fill;
 use numbers::narrow;
 use plate::Plate;
 
 // The land of dart a: puts its darts behind the first n of `darts`, and marks them. Answers where they end.
 fn walk_land(turns: &[u16], a: usize, darts: &mut [u16], seen: &mut [bool], n: usize) -> usize
-    requires walkable { ⌜ Walkable (now turns) ⌝ }
+    requires permuting { ⌜ Permuting (now turns) ⌝ }
     requires dart { ⌜ a < length (now turns) ⌝ }
-    requires room { ⌜ n + length (landFrom (now turns) a) ≤ length (now darts) ⌝ }
+    requires room { ⌜ n + length (landOf (now turns) a) ≤ length (now darts) ⌝ }
     requires marks { ⌜ length (now turns) ≤ length (now seen) ⌝ }
-    ensures end { λ r. ⌜ r ≡ n + length (landFrom (now (turns .entry)) a) ⌝ }
-    ensures darts { λ _. ⌜ now (darts .exit) ≡ take n (now (darts .entry)) ++ landFrom (now (turns .entry)) a ++ drop (n + length (landFrom (now (turns .entry)) a)) (now (darts .entry)) ⌝ }
-    ensures seen { λ _. ⌜ now (seen .exit) ≡ marked (landFrom (now (turns .entry)) a) (now (seen .entry)) ⌝ }
+    ensures end { λ r. ⌜ r ≡ n + length (landOf (now (turns .entry)) a) ⌝ }
+    ensures darts { λ _. ⌜ now (darts .exit) ≡ take n (now (darts .entry)) ++ landOf (now (turns .entry)) a ++ drop (n + length (landOf (now (turns .entry)) a)) (now (darts .entry)) ⌝ }
+    ensures seen { λ _. ⌜ now (seen .exit) ≡ marked (landOf (now (turns .entry)) a) (now (seen .entry)) ⌝ }
 {
     let mut d = a;
     let mut k = n;
@@ -38,7 +39,7 @@ fn walk_land(turns: &[u16], a: usize, darts: &mut [u16], seen: &mut [bool], n: u
 
 // The lands of the turns, in order of smallest dart: puts their darts, one after another, at the start of `darts`, and their lengths at the start of `lengths`. Answers how many they are.
 fn gather_lands(turns: &[u16], darts: &mut [u16], lengths: &mut [u16], seen: &mut [bool]) -> usize
-    requires walkable { ⌜ Walkable (now turns) ⌝ }
+    requires permuting { ⌜ Permuting (now turns) ⌝ }
     requires room { ⌜ (length (now turns) ≤ length (now darts)) × (length (now turns) ≤ 2 * length (now lengths)) ⌝ }
     requires marks { ⌜ length (now turns) ≤ length (now seen) ⌝ }
     requires unmarked { ⌜ ((d : ℕ) → at (now seen) d ≡ false) ⌝ }
@@ -72,7 +73,7 @@ fn no_dart_marks() -> [bool; Plate::MOST_DARTS]
 
 // The lands of the turns, in order of smallest dart: their darts, one after another, at the start of `darts`; at the start of `lengths` their lengths, then 0 up to one for each channel. Answers how many they are.
 pub fn list_lands(turns: &[u16], darts: &mut [u16], lengths: &mut [u16]) -> usize
-    requires walkable { ⌜ Walkable (now turns) ⌝ }
+    requires permuting { ⌜ Permuting (now turns) ⌝ }
     requires few { ⌜ length (now turns) ≤ mostDarts ⌝ }
     requires room { ⌜ (length (now turns) ≤ length (now darts)) × (length (now turns) ≤ 2 * length (now lengths)) ⌝ }
     ensures number { λ r. ⌜ r ≡ length (landsOf (now (turns .entry))) ⌝ }

@@ -4,14 +4,14 @@
 --   count x l       how often x stands in l: it stands there where 1 ≤ count x l, and not where the count is 0
 --   Distinct l      no number stands in l twice
 --   sum n l         how often numbers below n stand in l
--- count-append, count-map: the counts of lists put together and mapped. distinct-of, distinct-le: distinct is counted at most once. pigeon: distinct numbers below n are at most n. length-le, length-same: lengths by counts.
+-- count-append, count-map: the counts of lists put together and mapped. distinct-of, distinct-le: distinct is counted at most once. pigeon: distinct numbers below n are at most n. length-le, length-same, filled-up: lengths by counts.
 -- Assumes nothing.
 use mathlib.Core.Path.{_≡_, refl, ap, sym, _∙_}
 use mathlib.Core.Logic.{_≢_, _⊎_, inl, inr, ⊎-elim}
 use mathlib.Core.Bool.{Bool, true, false}
 use mathlib.Core.List.{List, [], _∷_, _++_, map}
 use Prim.Native.Nat.{ℕ, _≤_, _+_, zero, suc, _<_}
-use native.Mathlib.Nat.{not-suc-le-zero}
+use native.Mathlib.Nat.{not-suc-le-zero, eq-zero-or-pos}
 use native.Mathlib.Decide.{ℕ-discrete}
 use native.Mathlib.Omega.{arith}
 use lib.Dec.{T, eqb, eqb-refl, eqb→eq}
@@ -179,3 +179,16 @@ length-le n l m b h = omega (arith, length-sum n l (λ z k. b z (omega (arith, h
 pub length-same : (n : ℕ) (l m : List ℕ) → ((z : ℕ) → 1 ≤ count z m → z < n) → ((z : ℕ) → count z l ≡ count z m) → length l ≡ length m
 length-same n l m b h =
     omega (arith, length-le n l m b (λ z. omega (arith, h z)), length-le n m l (λ z k. b z (omega (arith, h z))) (λ z. omega (arith, h z)))
+
+squeeze : (n : ℕ) (l m : List ℕ) → ((z : ℕ) → count z l ≤ count z m) → sum n m ≤ sum n l → (z : ℕ) → z < n → count z m ≤ count z l
+unfolding sum
+squeeze zero l m h e z b = absurd (not-suc-le-zero b)
+squeeze (suc n) l m h e z b =
+    ⊎-elim (λ q. rw q (omega (arith, sum-less n l m h)))
+    (λ k. let ne : z ≢ n = (λ q. omega (arith, is-self z, ap (is z) q)) in squeeze n l m h (omega (arith, h n)) z (omega arith)) (is-cases z n)
+
+-- no number stands in l oftener than in m, and l is as long: each stands there as often
+pub filled-up : (n : ℕ) (l m : List ℕ) → ((z : ℕ) → 1 ≤ count z m → z < n) → ((z : ℕ) → count z l ≤ count z m) → length m ≤ length l → (z : ℕ) → count z m ≤ count z l
+filled-up n l m b h e z =
+    ⊎-elim (λ k. omega arith)
+    (λ k. squeeze n l m h (omega (arith, length-sum n m b, length-sum n l (λ y i. b y (omega (arith, h y))))) z (b z k)) (eq-zero-or-pos (count z m))

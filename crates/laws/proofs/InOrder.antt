@@ -2,12 +2,12 @@
 --   Headed l            the land l begins with its smallest dart
 --   insertLand l ls     the land l put in its place among lands in order of first dart
 --   inOrder ls          the lands ls in order of first dart
---   Ordered ls          the first darts of the lands ls do not fall;  Rising ls: they rise, so that no two are the same
+--   Ordered ls          the first darts of the lands ls do not fall;  HeadsRise ls: they rise, so that no two are the same
 --   startsBelow d l     the land l begins with a dart below d;  startsAt d l: it begins with d
 --   Walked t l          the walk from the first dart of l, which is its smallest, is l;  met d ls: a land of ls holds d
 --   IsListed l          l is a cycle listed from its smallest dart;  ListedAll s: every land of the state s is
 -- listed-headed: a cycle that is listed begins with its smallest dart. listed-laying: every land of a state that laying leaves is listed. all-inOrder, count-inOrder, length-inOrder, sound-inOrder: the lands in order are the same lands; ordered-inOrder: they are in order.
--- gathered, landsOf-kept: sound lands whose first darts do not fall are the lands of the turns. rising-sound: then they rise. ..-laidOut: so it is with every plate that is read,
+-- gathered, landsOf-kept: sound lands whose first darts do not fall are the lands of the turns. rising-sound: then they rise. heads-at: of two, the one before begins with the smaller dart. ..-laidOut: so it is with every plate that is read,
 -- laid with at most n paths: each land begins with its smallest dart, and the lands of the turns are the lands kept, in order of first dart.
 -- Assumes nothing.
 use mathlib.Core.Path.{_≡_, refl, sym, _∙_, ap, subst}
@@ -29,7 +29,7 @@ use Rattle.laws.proofs.Counts.{flag, flag-T, flag-F, T-flag, flag-le, c
 use Rattle.laws.proofs.Lists.{All, all-snoc, all-weaken, has-count, count-has}
 use Rattle.laws.proofs.Runs.{Land, count-listed, least-le, least-low, least-in, turnTo-first}
 use Rattle.laws.proofs.Links.{laid-lt}
-use Rattle.laws.proofs.Sound.{countAll, all-keep, Sound}
+use Rattle.laws.proofs.Sound.{countAll, all-at, all-keep, Sound}
 use Rattle.laws.proofs.Choices.{rounds-keep}
 use Rattle.laws.proofs.Rounds.{Kept}
 use Rattle.laws.proofs.Reading.{accepted, layable, kept-laidOut}
@@ -322,11 +322,17 @@ module _ (t : List ℕ) where
 
 -- ---- no two begin with the same dart
 
-abbrev pub Rising : List (List ℕ) → Type 0
-Rising [] = Unit {0}
-Rising (l ∷ ls) = All (λ m. first l < first m) ls × Rising ls
+abbrev pub HeadsRise : List (List ℕ) → Type 0
+HeadsRise [] = Unit {0}
+HeadsRise (l ∷ ls) = All (λ m. first l < first m) ls × HeadsRise ls
 
-pub rising-sound : (t : List ℕ) (ls : List (List ℕ)) → Sound t ls → Ordered ls → Rising ls
+pub heads-at : (ls : List (List ℕ)) → HeadsRise ls → (i j : ℕ) → i < j → j < length ls → first (getD ls i []) < first (getD ls j [])
+heads-at [] r i j h k = absurd (not-suc-le-zero k)
+heads-at (l ∷ ls) r i zero h k = absurd (not-suc-le-zero h)
+heads-at (l ∷ ls) r zero (suc j) h k = all-at (λ m. first l < first m) ls j (omega arith) (r .0)
+heads-at (l ∷ ls) r (suc i) (suc j) h k = heads-at ls (r .1) i j (omega arith) (omega arith)
+
+pub rising-sound : (t : List ℕ) (ls : List (List ℕ)) → Sound t ls → Ordered ls → HeadsRise ls
 unfolding countAll
 rising-sound t ls S r = go ls (S .follow) (λ z. omega (arith, S .cover z, flag-le (laid t z))) r
   where
@@ -337,7 +343,7 @@ rising-sound t ls S r = go ls (S .follow) (λ z. omega (arith, S .cover z, flag-
         let ne : d ≢ first m = (λ e. omega (arith, land-first t m (f .0), ap (λ (z : ℕ). count z m) e)) in
         (omega (arith, a .0), above d ms (f .1) (omega arith) (a .1))
 
-    go : (ms : List (List ℕ)) → All (Land t) ms → ((z : ℕ) → countAll z ms ≤ 1) → Ordered ms → Rising ms
+    go : (ms : List (List ℕ)) → All (Land t) ms → ((z : ℕ) → countAll z ms ≤ 1) → Ordered ms → HeadsRise ms
     go [] f c o = tt
     go (m ∷ ms) f c o = (above (first m) ms (f .1) (omega (arith, land-first t m (f .0), c (first m))) (o .0), go ms (f .1) (λ z. omega (arith, c z)) (o .1))
 
@@ -371,8 +377,8 @@ module _ (b : List ℕ) (p : Plate) (h : readPlate b ≡ given p) (n : ℕ) wher
   count-laidOut = ap length landsOf-laidOut ∙ length-inOrder (laidOut p n .state .lands)
 
   -- Their first darts rise.
-  pub rising-laidOut : Rising (landsOf (laidOut p n .state .turns))
+  pub rising-laidOut : HeadsRise (landsOf (laidOut p n .state .turns))
   rising-laidOut =
       let t = laidOut p n .state .turns in
       let ls = laidOut p n .state .lands in
-      subst Rising (sym landsOf-laidOut) (rising-sound t (inOrder ls) (sound-inOrder t ls (kept-laidOut b p h n .sound)) (ordered-inOrder ls))
+      subst HeadsRise (sym landsOf-laidOut) (rising-sound t (inOrder ls) (sound-inOrder t ls (kept-laidOut b p h n .sound)) (ordered-inOrder ls))

@@ -3,6 +3,7 @@ pub mod Counts
 pub mod Lists
 pub mod Sets
 pub mod Seeking
+pub mod Orbits
 pub mod Runs
 pub mod Links
 pub mod Split
@@ -22,6 +23,8 @@ pub mod Reading
 pub mod Afresh
 pub mod InOrder
 pub mod Counting
+pub mod Permuting
+pub mod Gathering
 pub mod Passing
 pub mod Steps
 pub mod Keeping
@@ -38,6 +41,7 @@ pub mod PathMeaning
 pub mod SamePath
 pub mod RefusalMeaning
 pub mod RefusalTable
+pub mod AcceptedSheet
 pub mod Small
 pub mod Demands
 pub mod Four

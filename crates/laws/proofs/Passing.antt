@@ -13,9 +13,9 @@ use lib.ListN.{length, getD}
 use Rattle.rules.specs.Lists.{from, any, all, seek, number}
 use Rattle.rules.specs.Terms.{leaves, reverse, enters, dartsAt}
 use Rattle.rules.specs.Files.{Format, portsIn, channelsIn, pairsAt, endsIn, fileLength}
-use Rattle.rules.specs.Refusals.{Test, passed, refuse, refuseAt, short, otherMark, otherVersion, markTests, outside, otherLength, countTests, strange, loop, samePair, metEarlier, placeOfChannel, pairTests, fileTests, itself, wildTurn, awayTurn, oneRing, brokenRing, turnTests, lentTest}
+use Rattle.rules.specs.Refusals.{Test, passed, refuse, refuseAt, short, otherMark, otherVersion, markTests, outside, otherLength, countTests, strange, loop, samePair, metEarlier, placeOfChannel, pairTests, fileTests, itself, wildTurn, awayTurn, oneRing, brokenRing, turnTests, Lent, lentTest}
 use Rattle.laws.proofs.Tests.{cond-cases, eq→eqb, ne→neqb, or-T}
-use Rattle.laws.proofs.Lists.{T-all, any-T, from-lt, seek-found}
+use Rattle.laws.proofs.Lists.{All, T-all, any-T, from-lt, seek-found}
 use Rattle.laws.proofs.Trails.{leaves-reverse}
 use Rattle.laws.proofs.Runs.{reverse-below}
 use Rattle.laws.proofs.Refusals.{Marked, Sized, Paired, Tested}
@@ -103,6 +103,12 @@ turns-pass v ends t wild stays rings =
 
 -- ---- 15
 
-pub lent-pass : (needed lent : ℕ) → needed ≤ lent → lentTest (record { needed = needed; lent = lent } ∷ []) ≡ passed
+pub lent-pass : (ls : List Lent) → All (λ l. l .needed ≤ l .lent) ls → lentTest ls ≡ passed
 unfolding lentTest any
-lent-pass needed lent h = refuse-none 15 _ (neither (ltb lent needed) false (λ t. not-suc-le-zero {n = 0} (omega (arith, ltb→lt lent needed t))) (λ t. t))
+lent-pass ls a = refuse-none 15 _ (long-enough ls a)
+  where
+    long-enough : (ms : List Lent) → All (λ l. l .needed ≤ l .lent) ms → T (not (any (λ l. ltb (l .lent) (l .needed)) ms))
+    long-enough [] e = tt
+    long-enough (m ∷ ms) e =
+        neither (ltb (m .lent) (m .needed)) (any (λ l. ltb (l .lent) (l .needed)) ms)
+        (λ t. not-suc-le-zero {n = 0} (omega (arith, ltb→lt (m .lent) (m .needed) t, e .0))) (T-not (any (λ l. ltb (l .lent) (l .needed)) ms) (long-enough ms (e .1)))

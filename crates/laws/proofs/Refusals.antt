@@ -18,7 +18,7 @@ use lib.Dec.{T, ltb, nltb→le, eqb, eqb→eq, leb, nleb→lt, T-not}
 use lib.ListN.{length, getD}
 use Rattle.rules.specs.Lists.{from, all, seek, at, number, numbers}
 use Rattle.rules.specs.Terms.{leaves, reverse, enters}
-use Rattle.rules.specs.Files.{Format, portsIn, channelsIn, pairsAt, endsIn, fileLength}
+use Rattle.rules.specs.Files.{Format, portsIn, channelsIn, pairsAt, endsIn, turnsAt, turnsIn, fileLength}
 use Rattle.rules.specs.Ways.{inPlay, reached}
 use Rattle.rules.specs.Refusals.{Answer, given, refused, _>>=_, Test, _>>_, passed, refuse, refuseAt, short, otherMark, otherVersion, markTests, outside, otherLength, countTests, strange, loop, samePair, metEarlier, placeOfChannel, pairTests, fileTests, itself, apart, cuts, pieceTests}
 use Rattle.laws.proofs.Tests.{cond-cases, eq→eqb, neqb→ne, ne→neqb, T-and, T-or₁, T-or₂, not-and, not-or, not-not}
@@ -210,6 +210,10 @@ length-numbers w (suc n) i b = ap suc (length-numbers w n (i + w) b)
 pub length-ends : (f : Format) (b : List ℕ) → length (endsIn f b) ≡ 2 * channelsIn f b
 unfolding endsIn
 length-ends f b = length-numbers (f .portBytes) (2 * channelsIn f b) (pairsAt f) b
+
+pub length-turns : (f : Format) (b : List ℕ) → length (turnsIn f b) ≡ 2 * channelsIn f b
+unfolding turnsIn
+length-turns f b = length-numbers (f .turnBytes) (2 * channelsIn f b) (turnsAt f (channelsIn f b)) b
 
 -- ---- 10 and 11
 

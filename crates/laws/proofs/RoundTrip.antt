@@ -264,7 +264,7 @@ module _ (b : List ℕ) (p : Plate) (h : readPlate b ≡ given p) where
   module _ (lent : ℕ) (enough : fileLength sheetFile (p .channels) ≤ lent) where
     write-as : writeSheet b lent ≡ (stuckTest (laidOut p withoutCap) >> given (fileOf sheetFile (p .ports) (p .channels) (p .ends) (laidOut p withoutCap .state .turns)))
     unfolding writeSheet
-    write-as = rw (h, lent-pass (fileLength sheetFile (p .channels)) lent enough)
+    write-as = rw (h, lent-pass (record { needed = fileLength sheetFile (p .channels); lent = lent } ∷ []) (enough, tt))
 
     write-flat : laidOut p withoutCap .word ≡ FLAT → writeSheet b lent ≡ given (fileOf sheetFile (p .ports) (p .channels) (p .ends) (laidOut p withoutCap .state .turns))
     unfolding stuckTest

@@ -1,12 +1,12 @@
 -- Whatever the number of paths, every land is a closed trail, and the turn of a laid dart is laid and leaves the dart's own port (document 01, "Terms", and refusals 12 and 13 of the laid darts).
--- count-found: a dart of the lands stands in one of them. land-next: what follows a land's dart is the land's. run-last: what follows the last dart of a run.
+-- count-found, count-single: a dart of the lands stands in one of them and, where it stands there once, in one only. land-next: what follows a land's dart is the land's. run-last: what follows the last dart of a run.
 -- closed-cycled, closed-parted: the first cycle's lands are closed trails, and those after a path. turn-laid, turn-port: the turn of a laid dart, where lands are sound and closed. closed-laying, turn-laid-laying, turn-port-laying, turn-tests-laying: so it is after at most n paths.
 -- Assumes nothing.
-use mathlib.Core.Path.{_≡_, sym, ap, _∙_, subst}
+use mathlib.Core.Path.{_≡_, refl, sym, ap, _∙_, subst}
 use mathlib.Core.Logic.{_⊎_, inl, inr, ⊎-elim}
 use mathlib.Core.Bool.{Bool, not}
 use mathlib.Core.List.{List, [], _∷_, _++_}
-use Prim.Native.Nat.{ℕ, _≤_, _<_, suc}
+use Prim.Native.Nat.{ℕ, _≤_, _<_, zero, suc}
 use native.Mathlib.Nat.{not-suc-le-zero, eq-zero-or-pos}
 use native.Mathlib.Omega.{arith}
 use lib.Dec.{T, eqb, leb, leb→le, T-not, not-T}
@@ -35,6 +35,15 @@ unfolding countAll
 count-found z [] h = absurd (not-suc-le-zero h)
 count-found z (l ∷ ls) h =
     ⊎-elim (λ e. let r = count-found z ls (omega arith) in (suc (r .0), omega (arith, r .1), r .2)) (λ p. (0, omega arith, p)) (eq-zero-or-pos (count z l))
+
+-- where it stands in them once, in one only
+pub count-single : (z : ℕ) (ls : List (List ℕ)) → countAll z ls ≤ 1 → (i j : ℕ) → 1 ≤ count z (getD ls i []) → 1 ≤ count z (getD ls j []) → i ≡ j
+unfolding countAll count
+count-single z [] u i j h k = absurd (not-suc-le-zero h)
+count-single z (l ∷ ls) u zero zero h k = refl
+count-single z (l ∷ ls) u zero (suc j) h k = absurd (not-suc-le-zero {n = 0} (omega (arith, count-at z ls j)))
+count-single z (l ∷ ls) u (suc i) zero h k = absurd (not-suc-le-zero {n = 0} (omega (arith, count-at z ls i)))
+count-single z (l ∷ ls) u (suc i) (suc j) h k = ap suc (count-single z ls (omega arith) i j h k)
 
 pub run-next : (t : List ℕ) (d : ℕ) (l : List ℕ) (e : ℕ) → Run t d l e → (z : ℕ) → 1 ≤ count z (d ∷ l) → (1 ≤ count (next t z) l) ⊎ (next t z ≡ e)
 unfolding count

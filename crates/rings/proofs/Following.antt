@@ -16,10 +16,10 @@ use Rattle.rules.specs.Terms.{leaves, dartsAt}
 use Rattle.rules.specs.Refusals.{oneRing}
 use Rattle.laws.proofs.Tests.{T-is, T-isnt, eqb-yes, eqb-no}
 use Rattle.laws.proofs.Counts.{is-cases, is-apart, count, count-head}
+use Rattle.laws.proofs.Orbits.{steps, Back, steps-suc}
 use Rattle.reach.specs.Neighbours.{firstDart, moreDart}
 use Rattle.reach.proofs.Chains.{chain, chain-none, chain-first, chain-more, first-leaves, more-leaves}
 use Rattle.rings.specs.Turns.{AtPorts}
-use Rattle.rings.proofs.Orbits.{steps, Back, steps-suc}
 use Rattle.rings.proofs.Rings.{turnOf, darts-inside, darts-once, steps-stay, back-ring, ring-back}
 
 pub record Followed (ends t : List ℕ) (p a d k : ℕ) : Type 0 where

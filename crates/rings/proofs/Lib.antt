@@ -1,4 +1,3 @@
-pub mod Orbits
 pub mod Rings
 pub mod Following
 pub mod Turns

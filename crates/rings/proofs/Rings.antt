@@ -1,7 +1,7 @@
 -- One ring (rules, "Refusals", `oneRing`): the darts of a port form one exactly where the turns from the first of them come back to it first after as many turns as they are.
 --   turnOf t d          the turn of dart d
 --   g, m                of a list of darts that begins with a: the turns as a function, the length
--- onward-is, ring-is: turns as steps. darts-..: what the darts of a port are. filled-up: a list that holds no number more often than another, and is as long, holds each as often. back-ring, ring-back: the two directions.
+-- onward-is, ring-is: turns as steps. darts-..: what the darts of a port are. back-ring, ring-back: the two directions.
 -- Assumes nothing.
 use mathlib.Core.Path.{_≡_, refl, sym, ap, _∙_, subst}
 use mathlib.Core.Logic.{_≢_, ⊎-elim}
@@ -15,10 +15,10 @@ use Rattle.rules.specs.Lists.{from, all, has}
 use Rattle.rules.specs.Terms.{leaves, dartsAt, onward, ring}
 use Rattle.rules.specs.Refusals.{oneRing}
 use Rattle.laws.proofs.Tests.{and-T, T-and, eq→eqb}
-use Rattle.laws.proofs.Counts.{is, is-self, is-cases, count, sum, length-sum, sum-less}
+use Rattle.laws.proofs.Counts.{is-self, count, filled-up}
 use Rattle.laws.proofs.Lists.{all-T, keep-le, keep-T, T-keep, count-from, from-lt, from-once, count-has, has-count, T-all}
+use Rattle.laws.proofs.Orbits.{steps, orbit, Back, steps-keep, length-orbit, orbit-from, orbit-has, back-once}
 use Rattle.rings.specs.Turns.{AtPorts}
-use Rattle.rings.proofs.Orbits.{steps, orbit, Back, steps-keep, length-orbit, orbit-from, orbit-has, back-once}
 
 -- ---- turns as steps
 
@@ -59,20 +59,6 @@ pub steps-stay : (ends t : List ℕ) (p : ℕ) → AtPorts ends t → (i a : ℕ
 steps-stay ends t p g i a h =
     steps-keep (turnOf t) (λ d. 1 ≤ count d (dartsAt ends p))
     (λ d k. let b = darts-inside ends p d k in darts-has ends p (getD t d 0) (g .range .dart d b) (g .port d b ∙ darts-leave ends p d k)) i a h
-
--- ---- lists with the same numbers
-
-squeeze : (n : ℕ) (l m : List ℕ) → ((z : ℕ) → count z l ≤ count z m) → sum n m ≤ sum n l → (z : ℕ) → z < n → count z m ≤ count z l
-unfolding sum
-squeeze zero l m h e z b = absurd (not-suc-le-zero b)
-squeeze (suc n) l m h e z b =
-    ⊎-elim (λ q. rw q (omega (arith, sum-less n l m h)))
-    (λ k. let ne : z ≢ n = (λ q. omega (arith, is-self z, ap (is z) q)) in squeeze n l m h (omega (arith, h n)) z (omega arith)) (is-cases z n)
-
-pub filled-up : (n : ℕ) (l m : List ℕ) → ((z : ℕ) → 1 ≤ count z m → z < n) → ((z : ℕ) → count z l ≤ count z m) → length m ≤ length l → (z : ℕ) → count z m ≤ count z l
-filled-up n l m b h e z =
-    ⊎-elim (λ k. omega arith)
-    (λ k. squeeze n l m h (omega (arith, length-sum n m b, length-sum n l (λ y i. b y (omega (arith, h y))))) z (b z k)) (eq-zero-or-pos (count z m))
 
 -- ---- one ring
 

@@ -1,6 +1,6 @@
 -- The parts of a sheet that passed tests 1 to 9, at the start of arrays for the largest plate.
 --   Known b v e      v and e are the counts of the file b, which has the length of its layout; they are within the limits, and the darts leave the ports
--- known: such a sheet is known. same: its number of channels, as a plate file's. length-turns: its turns are two for each channel. ends-front, turns-front: its pairs and turns at the start of an array. lent-part, place-in: that start, lent. tests-ready, tests-as: what tests 12 to 14 ask, and what they give.
+-- known: such a sheet is known. same: its number of channels, as a plate file's. ends-front, turns-front: its pairs and turns at the start of an array. lent-part, place-in: that start, lent. tests-ready, tests-as: what tests 12 to 14 ask, and what they give.
 -- Assumes nothing.
 use mathlib.Core.Path.{_≡_, refl, sym, ap, _∙_, subst}
 use mathlib.Core.List.{List, _++_}
@@ -11,7 +11,7 @@ use lib.Seq.{length-take-le, take-at}
 use Rattle.rules.specs.Lists.{numbers}
 use Rattle.rules.specs.Files.{plateFile, sheetFile, limits1, portsIn, channelsIn, pairsAt, endsIn, turnsAt, turnsIn}
 use Rattle.rules.specs.Refusals.{passed, fileTests, turnTests}
-use Rattle.laws.proofs.Refusals.{fileTests-passed, length-numbers, length-ends}
+use Rattle.laws.proofs.Refusals.{fileTests-passed, length-ends, length-turns}
 use Rattle.reach.specs.Neighbours.{Ports}
 use Rattle.rings.proofs.Tables.{back-length}
 use Rattle.plate.specs.State.{mostDarts, noEnds, copied}
@@ -43,10 +43,6 @@ known b v e h p q =
       inn = λ d l. omega (arith, t .paired .inn d (omega (arith, length-ends sheetFile b)));
     }
 
-pub length-turns : (b : List ℕ) → length (turnsIn sheetFile b) ≡ 2 * channelsIn sheetFile b
-unfolding turnsIn
-length-turns b = length-numbers 2 (2 * channelsIn sheetFile b) (turnsAt sheetFile (channelsIn sheetFile b)) b
-
 -- ---- the pairs and the turns
 
 module _ (b : List ℕ) (v e : ℕ) (k : Known b v e) where
@@ -72,7 +68,7 @@ module _ (b : List ℕ) (v e : ℕ) (k : Known b v e) where
   turns-front old part h p =
       let m : length (take (2 * e) old) ≡ 2 * e = length-take-le (2 * e) old (omega (arith, k .few)) in
       let is : part ≡ turnsIn sheetFile b = p ∙ turns-are (length (take (2 * e) old)) (8 + 2 * e) m refl in
-      let n : length part ≡ 2 * channelsIn sheetFile b = ap length is ∙ length-turns b in
+      let n : length part ≡ 2 * channelsIn sheetFile b = ap length is ∙ length-turns sheetFile b in
       (take-at part (drop (2 * e) old) (2 * channelsIn sheetFile b) n ∙ is, h ∙ sym (back-length part old (2 * e) (omega (arith, n, k .channels)) (omega (arith, k .few))))
 
   -- the array's start, as the code lends it
@@ -86,7 +82,7 @@ module _ (b : List ℕ) (v e : ℕ) (k : Known b v e) where
   pub tests-ready : (ends turns : List ℕ) → ends ≡ endsIn sheetFile b → turns ≡ turnsIn sheetFile b → Ports v ends × (length turns ≡ length ends) × (v ≤ mostDarts) × (length ends ≤ mostDarts)
   tests-ready ends turns p q = (
     subst (Ports v) (sym p) (k .inn),
-    ap length q ∙ length-turns b ∙ sym (ap length p ∙ length-ends sheetFile b),
+    ap length q ∙ length-turns sheetFile b ∙ sym (ap length p ∙ length-ends sheetFile b),
     omega (arith, k .few-ports),
     omega (arith, ap length p, length-ends sheetFile b, k .channels, k .few),
   )

@@ -19,6 +19,8 @@ use Rattle.rules.specs.Laying.{filled}
 use Rattle.rules.specs.Sheets.{Count as RuleCount, Judged, isFlat, judged, judgeSheet, readSheet, counted, dartsRead, lengthsRead}
 use Rattle.laws.proofs.Tests.{not-or}
 use Rattle.laws.proofs.Refusals.{refused-not, given-inj, then-given, refuse-passed, fileTests-passed}
+use Rattle.laws.proofs.RefusalTable.{sheetIn}
+use Rattle.laws.proofs.AcceptedSheet.{readTurns-given}
 use Rattle.plate.specs.declared.Refusal.{Refusal}
 use Rattle.plate.specs.declared.Kind.the-variants.{Sheet as SheetKind}
 use Rattle.plate.specs.declared.Test.{Test}
@@ -30,8 +32,7 @@ use Rattle.sheet.specs.declared.Count.{Count}
 use Rattle.sheet.specs.declared.Sheet.{Sheet}
 use Rattle.sheet.specs.declared.Sheet.the-variants.{Judged as Counted, Refused}
 use Rattle.sheet.specs.Answers.{answerOf}
-use Rattle.sheet.specs.Stages.{lentFor, inOrder, sheetIn, landsIn, readInto}
-use Rattle.sheet.proofs.Accepted.{readTurns-given}
+use Rattle.sheet.specs.Stages.{lentFor, inOrder, landsIn, readInto}
 
 -- ---- test 15
 

@@ -7,7 +7,7 @@ use Prim.Native.Nat.{ℕ, _-_, _+_, _*_, _≤_}
 use native.Mathlib.Omega.{arith}
 use lib.ListN.{length}
 use Rattle.rules.specs.Lists.{at}
-use Rattle.afresh.specs.Walks.{landFrom}
+use Rattle.laws.proofs.Permuting.{landOf}
 use Rattle.afresh.proofs.Listing.{Listed, start, old, new, new-room, new-few, end}
 use Rattle.afresh.proofs.gather_lands.Statement.{statement}
 use Rattle.afresh.proofs.gather_lands.Tie as tie
@@ -19,7 +19,7 @@ abbrev μ-loop : tie.MeasureT-loop
 μ-loop turns darts₀ lengths₀ seen₀ lands₀ n₀ d₀ darts lengths seen lands n d = length turns - d
 
 -- a dart that begins a land has place for it, and for its length
-room : (c : tie.Else1 Inv-loop μ-loop) → c .before .before .before .loop .n + length (landFrom (c .before .before .before .before .before .before .before .before .args .turns .now) (c .before .before .before .loop .d)) ≤ length (c .before .before .before .before .before .before .before .before .args .turns .now)
+room : (c : tie.Else1 Inv-loop μ-loop) → c .before .before .before .loop .n + length (landOf (c .before .before .before .before .before .before .before .before .args .turns .now) (c .before .before .before .loop .d)) ≤ length (c .before .before .before .before .before .before .before .before .args .turns .now)
 unfolding at
 room c = new-room _ _ _ _ (c .before .before .before .before .before .before .before .before .pre .0) _ _ _ _ _ _ _ (c .before .before .before .loop .inv .1) (c .before .before .loop-test .taken) (c .if1 .left)
 

@@ -1,7 +1,7 @@
 -- `afresh::no_dart_marks` meets its contract: the array is the list of as many flags, none set.
 -- Assumes nothing.
 use mathlib.Core.Path.{refl}
-use Rattle.afresh.specs.Walks.{noDartMarks}
+use Rattle.afresh.specs.Marks.{noDartMarks}
 use Rattle.afresh.proofs.no_dart_marks.Statement.{statement}
 use Rattle.afresh.proofs.no_dart_marks.Tie as tie
 

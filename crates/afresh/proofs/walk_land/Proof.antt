@@ -6,7 +6,7 @@ use mathlib.Core.List.{List}
 use Prim.Native.Nat.{ℕ, _-_, _<_}
 use native.Mathlib.Omega.{arith}
 use lib.ListN.{length, length-set}
-use Rattle.afresh.proofs.Walks.{round}
+use Rattle.laws.proofs.Permuting.{land-of}
 use Rattle.afresh.proofs.Walking.{Walk, start, dart-in, place-in, step-as, stop-as}
 use Rattle.afresh.proofs.walk_land.Statement.{statement}
 use Rattle.afresh.proofs.walk_land.Tie as tie
@@ -25,7 +25,7 @@ place : (c : tie.At-loop Inv-loop μ-loop) → c .loop .k < length (c .loop .dar
 place c = place-in _ _ _ _ _ _ _ _ _ _ (c .loop .inv .1) (c .before .before .before .before .pre .1 .1 .0)
 
 loop-holds : tie.Need-loop-holds Inv-loop μ-loop
-loop-holds c = let r = round _ (c .before .before .before .pre .0) (c .before .before .before .args .a) (c .before .before .before .pre .1 .0) in (r .0, start _ _ _ _ _ _ (r .1))
+loop-holds c = let r = land-of _ (c .before .before .before .pre .0) (c .before .before .before .args .a) (c .before .before .before .pre .1 .0) in (r .0, start _ _ _ _ _ _ (r .1))
 
 narrow-requires : tie.Need-narrow-requires Inv-loop μ-loop
 narrow-requires c κs = omega (arith, dart c, c .before .before .before .before .pre .0 .small)

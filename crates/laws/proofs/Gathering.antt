@@ -1,8 +1,7 @@
 -- The lands of turns that permute the darts, gathered dart by dart (rules, "Terms", `gather`).
---   HeadsRise ls        the first darts of the lands ls rise
 --   Gathered t d ls     the lands ls are those of the darts below d: closed walks that share no dart, each listed from its smallest dart, in order of it
 --   Lands t ls          the lands ls are all lands of the turns t: each dart is in one of them, once
--- countAll-concat, any-has: how often a dart stands in lands. gather-old, gather-new, gather-over: a dart that is in a land, one that begins one, and the end. gathered-none, gathered-old, gathered-new: so with the facts.
+-- any-has, has-any: the test whether a dart stands in lands. gather-old, gather-new, gather-over: a dart that is in a land, one that begins one, and the end. gathered-none, gathered-old, gathered-new: so with the facts.
 -- gathered-room, gathered-few: they have at most as many darts as there are, and are at most half as many. gathered-landsOf: the lands of the turns. lands-..: what they are.
 -- Assumes nothing.
 use mathlib.Core.Path.{_≡_, refl, sym, ap, _∙_, subst}
@@ -18,22 +17,18 @@ use lib.ListN.{length, getD, length-append}
 use Rattle.rules.specs.Lists.{from, any, has, concat}
 use Rattle.rules.specs.Terms.{missing, laid, next, gather, landsOf}
 use Rattle.rules.specs.Laying.{first}
 use Rattle.laws.proofs.Tests.{T-is, T-isnt, or-T, T-or₁, T-or₂}
-use Rattle.laws.proofs.Counts.{is, is-self, is-cases, is-apart, count, count-append, zero-of, pigeon, length-le}
+use Rattle.laws.proofs.Counts.{is, is-self, is-cases, is-apart, count, zero-of, pigeon, length-le}
 use Rattle.laws.proofs.Lists.{All, all-snoc, all-weaken, from-lt, from-once, has-count, count-has, length-from}
 use Rattle.laws.proofs.Runs.{Land}
 use Rattle.laws.proofs.Links.{there-lt}
 use Rattle.laws.proofs.Sound.{countAll, count-snoc}
-use Rattle.rings.proofs.Orbits.{steps, steps-suc, steps-inside}
-use Rattle.afresh.specs.Walks.{Walkable, landFrom}
-use Rattle.afresh.proofs.Walks.{Round, next-in, next-apart, round, land-before}
+use Rattle.laws.proofs.Orbits.{steps, steps-suc, steps-inside}
+use Rattle.laws.proofs.InOrder.{HeadsRise}
+use Rattle.laws.proofs.Counting.{count-concat}
+use Rattle.laws.proofs.Permuting.{Permuting, landOf, LandOf, next-in, next-apart, land-of, land-before}
 
--- ---- how often a dart stands in lands
-
-pub countAll-concat : (z : ℕ) (ls : List (List ℕ)) → countAll z ls ≡ count z (concat ls)
-unfolding countAll concat count
-countAll-concat z [] = refl
-countAll-concat z (l ∷ ls) = omega (arith, countAll-concat z ls, count-append z l (concat ls))
+-- ---- whether a dart stands in lands
 
 pub any-has : (ls : List (List ℕ)) (x : ℕ) → 1 ≤ countAll x ls → T (any (λ l. has l x) ls)
 unfolding any countAll
@@ -49,7 +44,7 @@ has-any (l ∷ ls) x h = ⊎-elim (λ k. omega (arith, has-count l x k)) (λ k. 
 -- ---- one dart
 
 -- a dart of turns that lead to darts is laid
-pub dart-laid : (t : List ℕ) → Walkable t → (d : ℕ) → d < length t → T (laid t d)
+pub dart-laid : (t : List ℕ) → Permuting t → (d : ℕ) → d < length t → T (laid t d)
 unfolding laid
 dart-laid t w d h = there-lt (getD t d missing) (omega (arith, w .dart d h, w .small, same t d h))
   where
@@ -62,13 +57,13 @@ module _ (t : List ℕ) (d : ℕ) (ls : List (List ℕ)) where
   old-dart : (ds : List ℕ) → 1 ≤ countAll d ls → gather t (d ∷ ds) ls ≡ gather t ds ls
   unfolding gather
   old-dart ds k =
-      ap (λ (b : Bool). gather t ds (cond b ls (ls ++ (landFrom t d ∷ [])))) (T-is (not (laid t d) || any (λ l. has l d) ls) (T-or₂ (not (laid t d)) (any (λ l. has l d) ls) (any-has ls d k)))
+      ap (λ (b : Bool). gather t ds (cond b ls (ls ++ (landOf t d ∷ [])))) (T-is (not (laid t d) || any (λ l. has l d) ls) (T-or₂ (not (laid t d)) (any (λ l. has l d) ls) (any-has ls d k)))
 
-  new-dart : (ds : List ℕ) → T (laid t d) → countAll d ls ≡ 0 → gather t (d ∷ ds) ls ≡ gather t ds (ls ++ (landFrom t d ∷ []))
+  new-dart : (ds : List ℕ) → T (laid t d) → countAll d ls ≡ 0 → gather t (d ∷ ds) ls ≡ gather t ds (ls ++ (landOf t d ∷ []))
   unfolding gather
   new-dart ds b k =
-      ap (λ (a : Bool). gather t ds (cond (not a || any (λ l. has l d) ls) ls (ls ++ (landFrom t d ∷ [])))) (T-is (laid t d) b)
-      ∙ ap (λ (a : Bool). gather t ds (cond a ls (ls ++ (landFrom t d ∷ [])))) (T-isnt (any (λ l. has l d) ls) (λ a. not-suc-le-zero {n = 0} (omega (arith, has-any ls d a))))
+      ap (λ (a : Bool). gather t ds (cond (not a || any (λ l. has l d) ls) ls (ls ++ (landOf t d ∷ [])))) (T-is (laid t d) b)
+      ∙ ap (λ (a : Bool). gather t ds (cond a ls (ls ++ (landOf t d ∷ [])))) (T-isnt (any (λ l. has l d) ls) (λ a. not-suc-le-zero {n = 0} (omega (arith, has-any ls d a))))
 
 module _ (t : List ℕ) (d n : ℕ) (ls : List (List ℕ)) where
   one-more : d < n → from d (n - d) ≡ d ∷ from (d + 1) (n - (d + 1))
@@ -78,7 +73,7 @@ module _ (t : List ℕ) (d n : ℕ) (ls : List (List ℕ)) where
   pub gather-old : d < n → 1 ≤ countAll d ls → gather t (from d (n - d)) ls ≡ gather t (from (d + 1) (n - (d + 1))) ls
   gather-old h k = ap (λ (ds : List ℕ). gather t ds ls) (one-more h) ∙ old-dart t d ls (from (d + 1) (n - (d + 1))) k
 
-  pub gather-new : d < n → T (laid t d) → countAll d ls ≡ 0 → gather t (from d (n - d)) ls ≡ gather t (from (d + 1) (n - (d + 1))) (ls ++ (landFrom t d ∷ []))
+  pub gather-new : d < n → T (laid t d) → countAll d ls ≡ 0 → gather t (from d (n - d)) ls ≡ gather t (from (d + 1) (n - (d + 1))) (ls ++ (landOf t d ∷ []))
   gather-new h b k = ap (λ (ds : List ℕ). gather t ds ls) (one-more h) ∙ new-dart t d ls (from (d + 1) (n - (d + 1))) b k
 
   pub gather-over : n ≤ d → gather t (from d (n - d)) ls ≡ ls
@@ -86,10 +81,6 @@ module _ (t : List ℕ) (d n : ℕ) (ls : List (List ℕ)) where
   gather-over h = let e : n - d ≡ 0 = omega arith in rw e
 
 -- ---- the lands of the darts below d
-
-abbrev pub HeadsRise : List (List ℕ) → Type 0
-HeadsRise [] = Unit {0}
-HeadsRise (l ∷ ls) = All (λ m. first l < first m) ls × HeadsRise ls
 
 heads-snoc : (ls : List (List ℕ)) (m : List ℕ) → HeadsRise ls → All (λ l. first l < first m) ls → HeadsRise (ls ++ (m ∷ []))
 heads-snoc [] m r a = (tt, tt)
@@ -125,7 +116,7 @@ lands-before t [] y a h = absurd (not-suc-le-zero h)
 lands-before t (l ∷ ls) y a h =
     ⊎-elim (λ e. let r = lands-before t ls y (a .1) (omega arith) in (r .0, omega (arith, r .1), r .2)) (λ k. let r = land-before t l y (a .0) k in (r .0, omega (arith, r .1), r .2)) (eq-zero-or-pos (count y l))
 
-module _ (t : List ℕ) (w : Walkable t) (d : ℕ) (ls : List (List ℕ)) (g : Gathered t d ls) where
+module _ (t : List ℕ) (w : Permuting t) (d : ℕ) (ls : List (List ℕ)) (g : Gathered t d ls) where
   pub gathered-old : 1 ≤ countAll d ls → Gathered t (d + 1) ls
   gathered-old h = record {
     follow = g .follow;
@@ -150,10 +141,10 @@ module _ (t : List ℕ) (w : Walkable t) (d : ℕ) (ls : List (List ℕ)) (g : G
         next-apart t w (r .0) (steps (next t) i d) (g .inside (r .0) (r .1)) (steps-inside (next t) (length t) (next-in t w) (next-apart t w) i d b) (r .2 ∙ steps-suc (next t) i d) in
         not-suc-le-zero {n = 0} (omega (arith, r .1, steps-apart i, ap (λ (y : ℕ). countAll y ls) same)))
 
-    walk-apart : (l : List ℕ) → Round t d l → (z : ℕ) → 1 ≤ count z (d ∷ l) → countAll z ls ≡ 0
+    walk-apart : (l : List ℕ) → LandOf t d l → (z : ℕ) → 1 ≤ count z (d ∷ l) → countAll z ls ≡ 0
     walk-apart l r z h = let s = r .from-a z h in ap (λ (y : ℕ). countAll y ls) (sym (s .1)) ∙ steps-apart (s .0)
 
-    pub gathered-walk : (l : List ℕ) → Round t d l → Gathered t (d + 1) (ls ++ ((d ∷ l) ∷ []))
+    pub gathered-walk : (l : List ℕ) → LandOf t d l → Gathered t (d + 1) (ls ++ ((d ∷ l) ∷ []))
     unfolding count first
     gathered-walk l r = record {
       follow = all-snoc (Land t) ls (d ∷ l) (g .follow) (r .run);
@@ -176,8 +167,8 @@ module _ (t : List ℕ) (w : Walkable t) (d : ℕ) (ls : List (List ℕ)) (g : G
             bad : 1 ≤ d - z → ⊥
             bad k = not-suc-le-zero {n = 0} (omega (arith, g .below z (omega arith)))
 
-    pub gathered-new : Gathered t (d + 1) (ls ++ (landFrom t d ∷ []))
-    gathered-new = let r = round t w d b in subst (λ (l : List ℕ). Gathered t (d + 1) (ls ++ (l ∷ []))) (sym (r .1 .walked)) (gathered-walk (r .0) (r .1))
+    pub gathered-new : Gathered t (d + 1) (ls ++ (landOf t d ∷ []))
+    gathered-new = let r = land-of t w d b in subst (λ (l : List ℕ). Gathered t (d + 1) (ls ++ (l ∷ []))) (sym (r .1 .walked)) (gathered-walk (r .0) (r .1))
 
 -- ---- how many they are
 
@@ -188,7 +179,7 @@ length-twos (l ∷ ls) a = omega (arith, a .0, length-twos ls (a .1), length-app
 
 module _ (t : List ℕ) (d : ℕ) (ls : List (List ℕ)) (g : Gathered t d ls) where
   pub gathered-room : length (concat ls) ≤ length t
-  gathered-room = pigeon (length t) (concat ls) (λ z h. g .inside z (omega (arith, countAll-concat z ls))) (λ z. omega (arith, countAll-concat z ls, g .once z))
+  gathered-room = pigeon (length t) (concat ls) (λ z h. g .inside z (omega (arith, count-concat z ls))) (λ z. omega (arith, count-concat z ls, g .once z))
 
   pub gathered-few : 2 * length ls ≤ length t
   gathered-few = omega (arith, length-twos ls (g .two), gathered-room)
@@ -208,7 +199,7 @@ pub record Lands (t : List ℕ) (ls : List (List ℕ)) : Type 0 where
   pub total : length (concat ls) ≡ length t
   pub few : 2 * length ls ≤ length t
 
-module _ (t : List ℕ) (w : Walkable t) where
+module _ (t : List ℕ) (w : Permuting t) where
   gathered-all : (n d : ℕ) (ls : List (List ℕ)) → d + n ≡ length t → Gathered t d ls → Gathered t (length t) (gather t (from d n) ls)
   unfolding gather from
   gathered-all zero d ls e g = subst (λ (k : ℕ). Gathered t k ls) (omega arith) g
@@ -216,7 +207,7 @@ module _ (t : List ℕ) (w : Walkable t) where
       ⊎-elim
       (λ k.
       subst (λ (ms : List (List ℕ)). Gathered t (length t) ms) (sym (new-dart t d ls (from (suc d) n) (dart-laid t w d (omega arith)) k))
-      (gathered-all n (suc d) (ls ++ (landFrom t d ∷ [])) (omega arith) (subst (λ (i : ℕ). Gathered t i (ls ++ (landFrom t d ∷ []))) (add-one d) (gathered-new t w d ls g (omega arith) k))))
+      (gathered-all n (suc d) (ls ++ (landOf t d ∷ [])) (omega arith) (subst (λ (i : ℕ). Gathered t i (ls ++ (landOf t d ∷ []))) (add-one d) (gathered-new t w d ls g (omega arith) k))))
       (λ k.
       subst (λ (ms : List (List ℕ)). Gathered t (length t) ms) (sym (old-dart t d ls (from (suc d) n) k))
       (gathered-all n (suc d) ls (omega arith) (subst (λ (i : ℕ). Gathered t i ls) (add-one d) (gathered-old t w d ls g k))))
@@ -233,14 +224,14 @@ lands-gathered t ls g = record {
   only = g .inside;
   least = g .least;
   rising = g .rising;
-  total = omega (arith, gathered-room t (length t) ls g, length-le (length t) (from 0 (length t)) (concat ls) (λ z h. g .inside z (omega (arith, countAll-concat z ls))) held, length-from 0 (length t));
+  total = omega (arith, gathered-room t (length t) ls g, length-le (length t) (from 0 (length t)) (concat ls) (λ z h. g .inside z (omega (arith, count-concat z ls))) held, length-from 0 (length t));
   few = gathered-few t (length t) ls g;
 }
   where
     -- every dart stands in them
     held : (z : ℕ) → count z (from 0 (length t)) ≤ count z (concat ls)
     held z =
-        ⊎-elim (λ k. omega arith) (λ k. omega (arith, from-once z 0 (length t), g .below z (omega (arith, from-lt z 0 (length t) k)), countAll-concat z ls)) (eq-zero-or-pos (count z (from 0 (length t))))
+        ⊎-elim (λ k. omega arith) (λ k. omega (arith, from-once z 0 (length t), g .below z (omega (arith, from-lt z 0 (length t) k)), count-concat z ls)) (eq-zero-or-pos (count z (from 0 (length t))))
 
-pub lands-landsOf : (t : List ℕ) → Walkable t → Lands t (landsOf t)
+pub lands-landsOf : (t : List ℕ) → Permuting t → Lands t (landsOf t)
 lands-landsOf t w = lands-gathered t (landsOf t) (gathered-landsOf t w)

@@ -1,7 +1,7 @@
 -- The demands, for an auditor to read from top to bottom: a sentence, the statement that says it, and where its proof stands.
--- b is any file, p the plate that it is read into, n the number of paths allowed; nothing else is supposed of them. `Four` shows such a file.
+-- b is any file, p the plate that it is read into, n the number of paths allowed, s the sheet that a file is read into; nothing else is supposed of them. `Four` shows such a file.
 --   t, ls               after at most n paths: the turns, and the lands in number order
---   laidPortsOf, laidChannels (Counting), inOrder (InOrder), Ended (Verdicts), PathLaid (PathMeaning), FragmentsMean (FragmentMeaning), Changed (Changes), SamePath, Exact and its rows (RefusalTable): read them where they stand
+--   laidPortsOf, laidChannels (Counting), inOrder (InOrder), Ended (Verdicts), PathLaid (PathMeaning), FragmentsMean (FragmentMeaning), Changed (Changes), SamePath, Exact and its rows (RefusalTable), AcceptedSheet: read them where they stand
 -- The statements hold of any set of channels in play that is connected without a cut port among the ports it touches (Rounds.Layable, Reaches.Wide), under the names that are cited here: laying-ended, laying-stays, laying-path, cycle-lands, same-path, changed-laying, once-land, oneRing-laying, landsOf-kept, ports-counted, ..
 -- The fakes of document 01, "How tight the statements are": each is named at the statement that excludes it.
 -- Assumes nothing.
@@ -9,25 +9,29 @@ use mathlib.Core.Path.{_≡_, subst, sym, ap, _∙_}
 use mathlib.Core.Logic.{_≢_, _⊎_, _↔_, ⊎-elim}
 use mathlib.Core.Bool.{Bool, true}
 use mathlib.Core.List.{List, [], _∷_, _++_, map}
-use Prim.Native.Nat.{ℕ, suc, _+_, _≤_, _<_}
-use lib.Dec.{T}
+use Prim.Native.Nat.{ℕ, suc, _+_, _*_, _≤_, _<_}
+use native.Mathlib.Nat.{eq-zero-or-pos}
+use native.Mathlib.Omega.{arith}
+use lib.Dec.{T, eqb}
 use lib.ListN.{length, getD}
 use Rattle.rules.specs.Lists.{at}
-use Rattle.rules.specs.Terms.{leaves, walk, listed, landsOf, dartsAt}
+use Rattle.rules.specs.Terms.{leaves, next, walk, listed, landsOf, dartsAt}
 use Rattle.rules.specs.Files.{sheetFile, fileLength, fileOf}
-use Rattle.rules.specs.Refusals.{given, passed, Plate, readPlate, readTurns, oneRing, brokenRing, turnTests}
+use Rattle.rules.specs.Refusals.{given, passed, Plate, Sheet, readPlate, readTurns, oneRing, brokenRing, turnTests}
 use Rattle.rules.specs.Laying.{FLAT, STUCK, PARTIAL, Fragment, back, first, lay, start, firstChannel, firstCycle, laying, withoutCap, wholePlate, laidOut, landsOfFlat, layPlate}
-use Rattle.rules.specs.Sheets.{judged, judgeSheet, readSheet, writeSheet}
+use Rattle.rules.specs.Sheets.{isFlat, judged, judgeSheet, readSheet, writeSheet}
 use Rattle.laws.proofs.Tests.{not-not}
 use Rattle.laws.proofs.Counts.{count}
+use Rattle.laws.proofs.Runs.{Land}
+use Rattle.laws.proofs.Sound.{countAll, all-at, count-at}
 use Rattle.laws.proofs.Choices.{Ready, Open, Sensible, choices-sensible, judge-ready}
 use Rattle.laws.proofs.Reaches.{Wide}
 use Rattle.laws.proofs.Rounds.{Layable}
 use Rattle.laws.proofs.Reading.{accepted, layable, channel-play, plateIn}
 use Rattle.laws.proofs.Afresh.{afresh-laidOut}
-use Rattle.laws.proofs.InOrder.{inOrder, landsOf-laidOut}
+use Rattle.laws.proofs.InOrder.{inOrder, heads-at, landsOf-laidOut}
 use Rattle.laws.proofs.Counting.{laidPortsOf, laidChannels, ports-laidOut, paths-laidOut, flat-laid, paths-flat, lands-flat, lands-most}
-use Rattle.laws.proofs.Turns.{turn-port-laying}
+use Rattle.laws.proofs.Turns.{count-found, count-single, land-next, turn-port-laying}
 use Rattle.laws.proofs.Visits.{once-land}
 use Rattle.laws.proofs.Rings.{unbroken-laying}
 use Rattle.laws.proofs.Changes.{Changed, changed-lay}
@@ -36,6 +40,7 @@ use Rattle.laws.proofs.Verdicts.{AllLaid, Barred, StuckAt, OneWord, End
 use Rattle.laws.proofs.PathMeaning.{PathLaid, CycleMeans, laidOut-path, laidOut-cycle, laidOut-lands}
 use Rattle.laws.proofs.SamePath.{SamePath, same-path}
 use Rattle.laws.proofs.RefusalTable.{Exact, Passes, Refuses, exact-either, plateRows, sheetRows, sheetIn, lentRow, stuckRow, layNeeds, writeNeeds, readNeeds, readPlate-exact, readTurns-exact, layPlate-exact, writeSheet-exact, readSheet-exact, judgeSheet-exact}
+use Rattle.laws.proofs.AcceptedSheet.{AcceptedSheet, accepted-sheet, judge-given, read-given}
 use Rattle.laws.proofs.RoundTrip.{turns-read, sheet-judged, write-word}
 
 -- ---- Demand 1. Every file, of every length and content, gets an answer. (Every definition computes, so every run ends.)
@@ -239,3 +244,54 @@ pub written-reads : (b : List ℕ) (p : Plate) (h : readPlate b ≡ given p) (le
 written-reads b p h lent enough s e =
     let w = write-word b p h lent enough s e in
     subst (λ (f : List ℕ). judgeSheet f ≡ given (record { channels = p .channels; lands = inOrder (laidOut p withoutCap .state .lands); flat = true })) (sym (w .1)) (flat-reads b p h withoutCap (w .0))
+
+-- ---- Any accepted sheet. What reading gives of every turn sheet that is accepted, whoever wrote it.
+
+module _ (b : List ℕ) (s : Sheet) (h : readTurns b ≡ given s) where
+  abbrev lands : List (List ℕ)
+  lands = landsOf (s .turns)
+
+  -- All that the tests leave: counts within the limits, pairs, turns that permute the darts and stay at their ports, one ring at each port, and the lands.
+  pub sheet-accepted : AcceptedSheet s
+  sheet-accepted = accepted-sheet b s h
+
+  dart-turn : (d : ℕ) → d < 2 * s .channels → d < length (s .turns)
+  dart-turn d l = omega (arith, sheet-accepted .darts .1)
+
+  once-at-most : (d : ℕ) → countAll d lands ≤ 1
+  once-at-most d = ⊎-elim (λ e. omega arith) (λ k. omega (arith, sheet-accepted .lands .each d (sheet-accepted .lands .only d k))) (eq-zero-or-pos (countAll d lands))
+
+  -- Each dart is in exactly one land, once, and nothing else is in a land.
+  pub sheet-each : (d : ℕ) → d < 2 * s .channels → (i : ℕ) × (i < length lands) × (count d (getD lands i []) ≡ 1) × ((j : ℕ) → 1 ≤ count d (getD lands j []) → j ≡ i)
+  sheet-each d l =
+      let f = count-found d lands (omega (arith, sheet-accepted .lands .each d (dart-turn d l))) in
+      (f .0, f .1, omega (arith, f .2, count-at d lands (f .0), once-at-most d), (λ j k. count-single d lands (once-at-most d) j (f .0) k (f .2)))
+
+  pub sheet-only : (i d : ℕ) → 1 ≤ count d (getD lands i []) → d < 2 * s .channels
+  sheet-only i d k = omega (arith, sheet-accepted .lands .only d (omega (arith, count-at d lands i)), sheet-accepted .darts .1)
+
+  -- Each land is a cycle of the rule (Land, of Runs), so it is closed under it.
+  pub sheet-cycle : (i : ℕ) → i < length lands → Land (s .turns) (getD lands i [])
+  sheet-cycle i l = all-at (Land (s .turns)) lands i l (sheet-accepted .lands .follow)
+
+  pub sheet-closed : (i : ℕ) → i < length lands → (d : ℕ) → 1 ≤ count d (getD lands i []) → 1 ≤ count (next (s .turns) d) (getD lands i [])
+  sheet-closed i l = land-next (s .turns) (getD lands i []) (sheet-cycle i l)
+
+  -- Each is listed from its smallest dart, and they come in order of smallest dart.
+  pub sheet-least : (i : ℕ) → i < length lands → (d : ℕ) → 1 ≤ count d (getD lands i []) → first (getD lands i []) ≤ d
+  sheet-least i l = all-at (λ m. (d : ℕ) → 1 ≤ count d m → first m ≤ d) lands i l (sheet-accepted .lands .least)
+
+  pub sheet-order : (i j : ℕ) → i < j → j < length lands → first (getD lands i []) < first (getD lands j [])
+  sheet-order = heads-at lands (sheet-accepted .lands .rising)
+
+  -- They are at most E.
+  pub sheet-few : length lands ≤ s .channels
+  sheet-few = sheet-accepted .few
+
+  -- Judging gives exactly these lands, and flat where V − E + lands = 2; so does reading into buffers that are long enough.
+  pub sheet-judges : judgeSheet b ≡ given (record { channels = s .channels; lands = lands; flat = eqb (s .ports + length lands) (s .channels + 2) })
+  unfolding judged isFlat
+  sheet-judges = judge-given b s h
+
+  pub sheet-reads : (darts lengths : ℕ) → 2 * s .channels ≤ darts → s .channels ≤ lengths → readSheet b darts lengths ≡ judgeSheet b
+  sheet-reads darts lengths d l = read-given b s h darts lengths d l ∙ sym (judge-given b s h)

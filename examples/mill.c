@@ -3,36 +3,17 @@
 #include <stdio.h>
 
 #include "llentisquel.h"
-
-static const char *words(uint32_t number) {
-  switch (number) {
-    case PLATE_CUT_OFF: return "the file has fewer than 8 bytes";
-    case PLATE_MARK: return "this is no such file: its mark is another";
-    case PLATE_VERSION: return "the version is not 1";
-    case PLATE_PORTS: return "fewer than 3 or more than 200 ports";
-    case PLATE_CHANNELS: return "fewer than 3 or more than 600 channels";
-    case PLATE_LENGTH: return "the file is longer or shorter than its channels ask";
-    case PLATE_STRANGE_PORT: return "a port that the plate does not have, at channel";
-    case PLATE_LOOP: return "a channel from a port to itself, channel";
-    case PLATE_REPEATED: return "two ports are joined twice, again by channel";
-    case PLATE_APART: return "not linked to port 0: port";
-    case PLATE_CUT_PORT: return "without it the plate falls in pieces: port";
-    case PLATE_WILD_TURN: return "the turn of a dart is no dart: dart";
-    case PLATE_AWAY_TURN: return "the turn of a dart leaves another port: dart";
-    case PLATE_BROKEN_RING: return "the darts do not form one ring at port";
-    case PLATE_SHORT_BUFFER: return "the buffer for the sheet is too short";
-    case PLATE_STUCK: return "stuck: no land touches all the laid ports of the part of channel";
-    default: return "unknown";
-  }
-}
+#include "llentisquel_words.h"
 
 /* 0 where the answer is no refusal */
 static int refused(const char *what, uint32_t answer) {
   if (answer < 65536) return 0;
-  uint32_t number = PLATE_NUMBER(answer);
-  fprintf(stderr, "%s refused, %u at %u: %s", what, (unsigned)number, (unsigned)PLATE_PLACE(answer), words(number));
-  if ((number >= 7 && number <= 14) || number == PLATE_STUCK) fprintf(stderr, " %u", (unsigned)PLATE_PLACE(answer));
-  fprintf(stderr, "\n");
+  unsigned number = PLATE_NUMBER(answer), place = PLATE_PLACE(answer);
+  fprintf(stderr, "%s refused, %u at %u: ", what, number, place);
+  for (const char *w = plate_refusal_words(number); *w; w++)
+    if (*w == '%') fprintf(stderr, "%u", place);
+    else fputc(*w, stderr);
+  fputc('\n', stderr);
   return 1;
 }
 

@@ -21,25 +21,28 @@ extern "C" {
 enum { PLATE_DONE = 0 };                       /* plate_write_sheet: the sheet is written */
 enum { PLATE_FLAT = 0, PLATE_NOT_FLAT = 1 };   /* plate_judge_sheet */
 
-/* Refusal numbers, and what their place is. The lowest that applies is given. */
+/* Refusal numbers; of each, what its place is, and its meaning, in which % is the place. The lowest number that
+   applies is given. The place of a fragment is its name: its lowest channel. llentisquel_words.h has the words. */
+/* From refusals.txt: */
 enum {
-  PLATE_CUT_OFF = 1,      /* fewer than 8 bytes; place 0 */
-  PLATE_MARK = 2,         /* wrong mark; 0 */
-  PLATE_VERSION = 3,      /* version not 1; 0 */
-  PLATE_PORTS = 4,        /* number of ports outside 3..200; 0 */
-  PLATE_CHANNELS = 5,     /* number of channels outside 3..600; 0 */
-  PLATE_LENGTH = 6,       /* length differs from the layout; 0 */
-  PLATE_STRANGE_PORT = 7, /* a port number too large; the channel */
-  PLATE_LOOP = 8,         /* both ends of a channel equal; the channel */
-  PLATE_REPEATED = 9,     /* a pair met earlier; the channel */
-  PLATE_APART = 10,       /* a port not reachable from port 0; the port */
-  PLATE_CUT_PORT = 11,    /* without this port the others fall in pieces; the port */
-  PLATE_WILD_TURN = 12,   /* sheet: a turn that is no dart; the dart */
-  PLATE_AWAY_TURN = 13,   /* sheet: a turn that leaves another port; the dart */
-  PLATE_BROKEN_RING = 14, /* sheet: a port's darts do not form one ring; the port */
-  PLATE_SHORT_BUFFER = 15,/* fewer bytes lent than the sheet has; 0 */
-  PLATE_STUCK = 16        /* the plate can't be laid; the name of the fragment, its lowest channel */
+  PLATE_CUT_OFF = 1,       /* 0        | the file has fewer than 8 bytes */
+  PLATE_MARK = 2,          /* 0        | the file does not begin with its mark: FPL for a plate, FTS for a turn sheet */
+  PLATE_VERSION = 3,       /* 0        | the version is not 1 */
+  PLATE_PORTS = 4,         /* 0        | fewer than 3 or more than 200 ports */
+  PLATE_CHANNELS = 5,      /* 0        | fewer than 3 or more than 600 channels */
+  PLATE_LENGTH = 6,        /* 0        | the file is longer or shorter than its channels ask */
+  PLATE_STRANGE_PORT = 7,  /* channel  | channel % names a port that the plate does not have */
+  PLATE_LOOP = 8,          /* channel  | channel % leads from a port to itself */
+  PLATE_REPEATED = 9,      /* channel  | channel % joins two ports that are joined already */
+  PLATE_APART = 10,        /* port     | port % is not linked to port 0 */
+  PLATE_CUT_PORT = 11,     /* port     | without port % the other ports fall in pieces */
+  PLATE_WILD_TURN = 12,    /* dart     | the turn of dart % is no dart */
+  PLATE_AWAY_TURN = 13,    /* dart     | the turn of dart % leaves another port */
+  PLATE_BROKEN_RING = 14,  /* port     | the darts of port % do not form one ring */
+  PLATE_SHORT_BUFFER = 15, /* 0        | the buffer lent for the result is too short */
+  PLATE_STUCK = 16         /* fragment | stuck: no land visits all the laid ports of the part that channel % belongs to */
 };
+/* So far refusals.txt. */
 
 /* The parts of an answer of 65536 or more. */
 #define PLATE_NUMBER(answer) ((uint32_t)(answer) >> 16)

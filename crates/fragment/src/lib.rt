@@ -61,7 +61,7 @@ fn is_laid(turns: &[u16], d: usize) -> bool
 }
 
 // The laid ports: those that a laid dart leaves.
-pub fn laid_ports(ends: &[u16], turns: &[u16], laid: &mut [bool])
+fn laid_ports(ends: &[u16], turns: &[u16], laid: &mut [bool])
     requires ports { ⌜ Ports (length (now laid)) (now ends) ⌝ }
     requires darts { ⌜ length (now turns) ≡ length (now ends) ⌝ }
     ensures { λ _. ⌜ now (laid .exit) ≡ laidPorts (now (ends .entry)) (now (turns .entry)) (from 0 (length (now (ends .entry)))) (replicate (length (now (laid .entry))) false) ⌝ }
@@ -105,7 +105,7 @@ fn all_laid(turns: &[u16], play: &[bool]) -> bool
 }
 
 // The port from which the fragment of channel k spreads: the first of its ends that is unlaid; the number of ports where both are laid.
-pub fn seed_port(ends: &[u16], laid: &[bool], k: usize) -> usize
+fn seed_port(ends: &[u16], laid: &[bool], k: usize) -> usize
     requires ports { ⌜ Ports (length (now laid)) (now ends) ⌝ }
     requires channel { ⌜ 2 * k + 1 < length (now ends) ⌝ }
     ensures { λ r. ⌜ r ≡ seedPort (length (now (laid .entry))) (now (ends .entry)) (now (laid .entry)) k ⌝ }

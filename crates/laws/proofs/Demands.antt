@@ -20,6 +20,7 @@ use Rattle.rules.specs.Files.{sheetFile, fileLength, fileOf}
 use Rattle.rules.specs.Refusals.{given, passed, Plate, Sheet, readPlate, readTurns, oneRing, brokenRing, turnTests}
 use Rattle.rules.specs.Laying.{FLAT, STUCK, PARTIAL, Fragment, back, first, lay, start, firstChannel, firstCycle, laying, withoutCap, wholePlate, laidOut, landsOfFlat, layPlate}
 use Rattle.rules.specs.Sheets.{isFlat, judged, judgeSheet, readSheet, writeSheet}
+use Rattle.rules.specs.Listing.{listing, writeListing}
 use Rattle.laws.proofs.Tests.{not-not}
 use Rattle.laws.proofs.Counts.{count}
 use Rattle.laws.proofs.Runs.{Land}
@@ -39,7 +40,7 @@ use Rattle.laws.proofs.FragmentMeaning.{IsFragment, FragmentsMean, frag
 use Rattle.laws.proofs.Verdicts.{AllLaid, Barred, StuckAt, OneWord, Ended, ended-laidOut, whole-laidOut, wide, partial-ready, judge-chosen, laying-over, laying-stays, laying-end, laying-next-state}
 use Rattle.laws.proofs.PathMeaning.{PathLaid, CycleMeans, laidOut-path, laidOut-cycle, laidOut-lands}
 use Rattle.laws.proofs.SamePath.{SamePath, same-path}
-use Rattle.laws.proofs.RefusalTable.{Exact, Passes, Refuses, exact-either, plateRows, sheetRows, sheetIn, lentRow, stuckRow, layNeeds, writeNeeds, readNeeds, readPlate-exact, readTurns-exact, layPlate-exact, writeSheet-exact, readSheet-exact, judgeSheet-exact}
+use Rattle.laws.proofs.RefusalTable.{Exact, Passes, Refuses, exact-either, plateRows, sheetRows, sheetIn, lentRow, stuckRow, layNeeds, writeNeeds, listNeeds, readNeeds, readPlate-exact, readTurns-exact, layPlate-exact, writeSheet-exact, writeListing-exact, readSheet-exact, judgeSheet-exact}
 use Rattle.laws.proofs.AcceptedSheet.{AcceptedSheet, accepted-sheet, judge-given, read-given}
 use Rattle.laws.proofs.RoundTrip.{turns-read, sheet-judged, write-word}
 
@@ -68,6 +69,10 @@ module _ (b : List ℕ) where
       → Exact (writeSheet b bytes) (fileOf sheetFile (plateIn b .ports) (plateIn b .channels) (plateIn b .ends) (laidOut (plateIn b) withoutCap .state .turns))
       (plateRows b ++ lentRow (writeNeeds (plateIn b) bytes) ∷ stuckRow (laidOut (plateIn b) withoutCap) ∷ [])
   write-answer = writeSheet-exact b
+
+  -- The listing call lists every file, also one that is refused; it refuses a short buffer alone.
+  pub list-answer : (bytes : ℕ) → Exact (writeListing b bytes) (listing b) (lentRow (listNeeds bytes) ∷ [])
+  list-answer = writeListing-exact b
 
   -- One of the two always is the case.
   pub always : Passes (plateRows b) ⊎ ((n : ℕ) × ((p : ℕ) × Refuses (plateRows b) n p))

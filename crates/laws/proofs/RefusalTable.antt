@@ -7,7 +7,7 @@
 --   SamePair ends j k           channels j and k have the same pair, either way round
 --   fileRows, pieceRows, turnRows, lentRow, stuckRow      the rows 1 to 9, 10 and 11, 12 to 14, 15, and 16
 --   plateRows, sheetRows        the rows of a plate file, and of a turn sheet
--- exact-then: tests in a row. exact-one, exact-either: the rows determine the answer. readPlate-exact, readTurns-exact: the two kinds of file. layPlate-exact, writeSheet-exact, readSheet-exact, judgeSheet-exact: the calls.
+-- exact-then: tests in a row. exact-one, exact-either: the rows determine the answer. readPlate-exact, readTurns-exact: the two kinds of file. layPlate-exact, writeSheet-exact, writeListing-exact, readSheet-exact, judgeSheet-exact: the calls.
 -- Assumes nothing.
 use mathlib.Core.Path.{_≡_, refl, subst, sym, ap, _∙_}
 use mathlib.Core.Logic.{⊎-elim, _≢_, _⊎_, inl, inr, _↔_}
@@ -23,6 +23,7 @@ use Rattle.rules.specs.Files.{Format, plateFile, sheetFile, portsIn, channelsIn
 use Rattle.rules.specs.Refusals.{Answer, given, refused, _>>=_, Test, _>>_, passed, refuse, refuseAt, short, otherMark, otherVersion, markTests, outside, otherLength, countTests, strange, loop, samePair, metEarlier, pairTests, fileTests, itself, apart, cuts, pieceTests, wildTurn, awayTurn, brokenRing, turnTests, Plate, readPlate, Sheet, readTurns, Lent, lentTest}
 use Rattle.rules.specs.Laying.{State, STUCK, FLAT, PARTIAL, Word, Outcome, withoutCap, laidOut, landsOfFlat, layPlate}
 use Rattle.rules.specs.Sheets.{judged, judgeSheet, readSheet, stuckTest, writeSheet}
+use Rattle.rules.specs.Listing.{listing, mostListing, writeListing}
 use Rattle.laws.proofs.Tests.{eq→eqb, neqb→ne, ne→neqb, and-T, T-and, or-T, T-or₁, T-or₂}
 use Rattle.laws.proofs.Lists.{any-T, T-any, not-all, all-T, count-from, from-lt}
 use Rattle.laws.proofs.Refusals.{refused-not, given-inj, fileTests-passed, length-ends}
@@ -383,6 +384,14 @@ writeSheet-exact b bytes =
     plate-then b _ _ (lentRow (writeNeeds (plateIn b) bytes) ∷ stuckRow (laidOut (plateIn b) withoutCap) ∷ [])
     (exact-then (lentTest (writeNeeds (plateIn b) bytes)) _ _ _ (stuckRow (laidOut (plateIn b) withoutCap) ∷ []) (lent-exact (writeNeeds (plateIn b) bytes))
     (λ c. exact-then (stuckTest (laidOut (plateIn b) withoutCap)) _ _ _ [] (stuck-exact (laidOut (plateIn b) withoutCap)) (λ d. exact-given _)))
+
+-- Listing: 15 alone; a refused file has a listing.
+abbrev pub listNeeds : ℕ → List Lent
+listNeeds bytes = record { needed = mostListing; lent = bytes } ∷ []
+
+pub writeListing-exact : (b : List ℕ) (bytes : ℕ) → Exact (writeListing b bytes) (listing b) (lentRow (listNeeds bytes) ∷ [])
+unfolding writeListing
+writeListing-exact b bytes = exact-then (lentTest (listNeeds bytes)) _ _ _ [] (lent-exact (listNeeds bytes)) (λ c. exact-given _)
 
 -- Turn sheets: 1-9, 12-14, and no 10 or 11.
 abbrev pub sheetIn : List ℕ → Sheet

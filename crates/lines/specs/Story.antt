@@ -1,4 +1,4 @@
--- The story of a laying (rounds, "Stories"), read back.
+-- The story of a laying (step, "Stories"), read back.
 --   cycleOf s           the first cycle's darts, read off a story
 --   pathsIn n s         n paths, read off the part s of a story
 --   pathsOf n s         n paths, read off a story

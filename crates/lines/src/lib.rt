@@ -18,7 +18,7 @@ use print::put_text;
 use rounds::Word;
 
 // Writes the first line: the mark, the version, the number of ports and the number of channels.
-pub fn head_line(out: &mut [u8], at: usize, v: usize, e: usize) -> usize
+fn head_line(out: &mut [u8], at: usize, v: usize, e: usize) -> usize
     requires { ⌜ at + length (headLine (plateOf v e [])) ≤ length (now out) ⌝ }
     ensures { λ r. ⌜ Put (headLine (plateOf v e [])) at (now (out .entry)) (now (out .exit)) r ⌝ }
 {
@@ -30,7 +30,7 @@ pub fn head_line(out: &mut [u8], at: usize, v: usize, e: usize) -> usize
 }
 
 // Writes the line of the first cycle: the ports that its darts leave.
-pub fn cycle_line(out: &mut [u8], at: usize, ends: &[u16], darts: &[u16]) -> usize
+fn cycle_line(out: &mut [u8], at: usize, ends: &[u16], darts: &[u16]) -> usize
     requires { ⌜ Darts (now ends) (now darts) ⌝ }
     requires { ⌜ at + length (line "cycle" (map (leaves (now ends)) (now darts))) ≤ length (now out) ⌝ }
     ensures { λ r. ⌜ Put (line "cycle" (map (leaves (now (ends .entry))) (now (darts .entry)))) at (now (out .entry)) (now (out .exit)) r ⌝ }
@@ -41,7 +41,7 @@ pub fn cycle_line(out: &mut [u8], at: usize, ends: &[u16], darts: &[u16]) -> usi
 }
 
 // Writes the line of a path: its fragment, its land, the port that its first dart leaves and the ports that its darts enter.
-pub fn path_line(
+fn path_line(
     out: &mut [u8],
     at: usize,
     ends: &[u16],
@@ -94,7 +94,7 @@ pub fn refused_line(out: &mut [u8], at: usize, number: usize, place: usize) -> u
 }
 
 // Writes the line of the word: the number of paths, and for STUCK the name.
-pub fn word_line(out: &mut [u8], at: usize, word: Word, paths: usize) -> usize
+fn word_line(out: &mut [u8], at: usize, word: Word, paths: usize) -> usize
     requires { ⌜ at + length (lineOfWord word paths) ≤ length (now out) ⌝ }
     ensures { λ r. ⌜ Put (lineOfWord word paths) at (now (out .entry)) (now (out .exit)) r ⌝ }
 {
@@ -130,7 +130,7 @@ fn port_line(out: &mut [u8], at: usize, p: usize, turns: &[u16], n: usize, d: us
 }
 
 // Writes the lines of the paths that the story tells from index `from` on.
-pub fn path_lines(
+fn path_lines(
     out: &mut [u8],
     at: usize,
     ends: &[u16],
@@ -166,7 +166,7 @@ pub fn path_lines(
 }
 
 // Writes the lines of the lands: each land's number and darts.
-pub fn land_lines(
+fn land_lines(
     out: &mut [u8],
     at: usize,
     turns: &[u16],
@@ -203,7 +203,7 @@ fn degree(ends: &[u16], first: &[u16], more: &[u16], v: usize, p: usize) -> usiz
 }
 
 // Writes the lines of the ports: each port's number and its darts clockwise from the smallest.
-pub fn port_lines(
+fn port_lines(
     out: &mut [u8],
     at: usize,
     ends: &[u16],

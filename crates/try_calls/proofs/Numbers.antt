@@ -13,7 +13,10 @@ use Rattle.sheet.specs.declared.Count.{Count}
 use Rattle.sheet.specs.declared.Sheet.{Sheet}
 use Rattle.sheet.specs.declared.Sheet.the-variants.{Judged, Refused as Unread}
 use Rattle.sheet.specs.Answers.{answerOf}
-use Rattle.try_calls.specs.Numbers.{wordNumber, toldNumbers, countNumbers}
+use Rattle.text.specs.declared.Listed.{Listed}
+use Rattle.text.specs.declared.Listed.the-variants.{Bytes, Refused as Unlisted}
+use Rattle.text.specs.Calls.{listedAnswer}
+use Rattle.try_calls.specs.Numbers.{wordNumber, toldNumbers, countNumbers, bytesNumbers}
 
 module _ (l : Laid) where
   abbrev numbers : List ℕ
@@ -47,3 +50,12 @@ module _ (s : Sheet) where
   pub unread-numbers : (x : Refusal) → s ≡ Unread x → 1 ∷ x .number ∷ x .place ∷ 0 ∷ [] ≡ countNumbers (answerOf s)
   unfolding answerOf countNumbers
   unread-numbers x e = sym (ap (λ (z : Sheet). countNumbers (answerOf z)) e)
+
+module _ (l : Listed) where
+  pub bytes-numbers : (n : ℕ) → l ≡ Bytes n → 0 ∷ n ∷ 0 ∷ 0 ∷ [] ≡ bytesNumbers (listedAnswer l)
+  unfolding listedAnswer bytesNumbers
+  bytes-numbers n e = sym (ap (λ (z : Listed). bytesNumbers (listedAnswer z)) e)
+
+  pub unlisted-numbers : (x : Refusal) → l ≡ Unlisted x → 1 ∷ x .number ∷ x .place ∷ 0 ∷ [] ≡ bytesNumbers (listedAnswer l)
+  unfolding listedAnswer bytesNumbers
+  unlisted-numbers x e = sym (ap (λ (z : Listed). bytesNumbers (listedAnswer z)) e)

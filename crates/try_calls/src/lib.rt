@@ -1,14 +1,18 @@
-// The calls that the mill does not have, for the C programs that test and time: laying, reading a sheet, and listing.
+// The calls that the mill does not have, for the C programs that test and time: the pairs, laying, reading a sheet, and listing.
 ghost use mathlib.Core.Path.{_≡_};
 ghost use lib.ListN.{length};
-ghost use Rattle.rules.specs.Laying.{layPlate, told, turnsLeft, landsLeft, lengthsLeft};
+ghost use Rattle.rules.specs.Refusals.{pairsOf};
+ghost use Rattle.rules.specs.Laying.{layPlate, told, bytesLeft, bytesTold, turnsLeft, landsLeft, lengthsLeft};
 ghost use Rattle.rules.specs.Sheets.{readSheet, counted, dartsRead, lengthsRead};
+ghost use Rattle.rules.specs.Listing.{writeListing};
+ghost use Rattle.plate.specs.State.{copied};
 ghost use Rattle.laid.specs.Answers.{laidAnswer};
 ghost use Rattle.sheet.specs.Answers.{answerOf};
-ghost use Rattle.text.specs.Calls.{listedCount, listedLeft};
-ghost use Rattle.try_calls.specs.Numbers.{toldNumbers, countNumbers};
+ghost use Rattle.text.specs.Calls.{listedAnswer};
+ghost use Rattle.try_calls.specs.Numbers.{toldNumbers, countNumbers, bytesNumbers};
 use laid::Laid;
 use sheet::Sheet;
+use text::Listed;
 
 // What laying answers, as four numbers.
 fn laid_numbers(laid: Laid) -> [u64; 4]
@@ -29,6 +33,16 @@ fn read_numbers(got: Sheet) -> [u64; 4]
     match got {
         Sheet::Judged(c) => [0, c.flat as u64, c.lands as u64, 0],
         Sheet::Refused(x) => [1, x.number as u64, x.place as u64, 0],
+    }
+}
+
+// What listing answers, as four numbers.
+fn listed_numbers(listed: Listed) -> [u64; 4]
+    ensures { λ r. ⌜ r ≡ bytesNumbers (listedAnswer listed) ⌝ }
+{
+    match listed {
+        Listed::Bytes(n) => [0, n as u64, 0, 0],
+        Listed::Refused(x) => [1, x.number as u64, x.place as u64, 0],
     }
 }
 
@@ -75,9 +89,23 @@ pub extern "C" fn try_read_sheet(
 }
 
 #[no_mangle]
-pub extern "C" fn try_listing(file: &[u8], out: &mut [u8]) -> usize
-    ensures count { λ r. ⌜ r ≡ listedCount (now (file .entry)) (length (now (out .entry))) ⌝ }
-    ensures bytes { λ _. ⌜ now (out .exit) ≡ listedLeft (now (file .entry)) (now (out .entry)) ⌝ }
+pub extern "C" fn try_listing(file: &[u8], out: &mut [u8], answer: &mut [u64; 4])
+    ensures answer { λ _. ⌜ now (answer .exit) ≡ bytesNumbers (bytesTold (writeListing (now (file .entry)) (length (now (out .entry))))) ⌝ }
+    ensures bytes { λ _. ⌜ now (out .exit) ≡ bytesLeft (writeListing (now (file .entry)) (length (now (out .entry)))) (now (out .entry)) ⌝ }
 {
-    text::listing(file, out)
+    let listed = text::listing(file, out);
+    let numbers = listed_numbers(listed);
+    hand(numbers, answer);
+}
+
+// The pairs that the reader hands back, copied to the front of `ends`, as many as fit; and how many bytes they are.
+#[no_mangle]
+pub extern "C" fn try_pairs(file: &[u8], ends: &mut [u16]) -> usize
+    ensures count { λ r. ⌜ r ≡ length (pairsOf (now (file .entry))) ⌝ }
+    ensures ends { λ _. ⌜ now (ends .exit) ≡ copied (pairsOf (now (file .entry))) (now (ends .entry)) ⌝ }
+{
+    let got = plate::read(file);
+    let pairs = plate::pairs(file, got);
+    plate::copy_ends(pairs, ends);
+    pairs.len()
 }

@@ -1,27 +1,43 @@
-/* Runs the proved calls beside the second program on random plates and sheets, and compares everything they leave.
+/* Runs the proved calls beside the second program on the plates and sheets of make.c, and compares everything they leave.
    compare SEED PLATES: the seed, printed again, and how many plates. Every lent buffer has guard bytes around it. */
 #include <stdio.h>
 #include <stdlib.h>
 #include <string.h>
 
 #include "../include/llentisquel.h"
-#include "second.h"
+#include "make.h"
 #include "try_calls.h"
 
-enum { GUARD = 32, FILL = 0xA5, ROOM = 70000 };
+/* ---- what is counted */
 
-static uint64_t seed;
-static int below(int n) { /* splitmix64 */
-  uint64_t z = seed += 0x9E3779B97F4A7C15u;
-  z = (z ^ (z >> 30)) * 0xBF58476D1CE4E5B9u;
-  z = (z ^ (z >> 27)) * 0x94D049BB133111EBu;
-  return (int)((z ^ (z >> 31)) % (uint64_t)n);
-}
+enum { MOST_REFUSAL = 16 };
+enum { LAY, WRITE, READ, JUDGE, LIST, LISTED, CALLS };
 
-static long compared, words[3], refusals[17];
+#define NUMBERS(from, to) ((1ul << ((to) + 1)) - (1ul << (from)))
+
+/* each call, and the refusals it gives */
+static const struct {
+  const char *name;
+  unsigned long gives;
+} call[CALLS] = {
+    [LAY] = {"lay", NUMBERS(1, 11) | NUMBERS(15, 15)},
+    [WRITE] = {"write", NUMBERS(1, 11) | NUMBERS(15, 16)},
+    [READ] = {"read_sheet", NUMBERS(1, 9) | NUMBERS(12, 15)},
+    [JUDGE] = {"judge", NUMBERS(1, 9) | NUMBERS(12, 14)},
+    [LIST] = {"listing", NUMBERS(15, 15)},
+    [LISTED] = {"REFUSED", NUMBERS(1, 11)}, /* the line, not the call */
+};
+
+static const char *const sheet_kind[SHEET_KINDS] = {
+    [APART] = "two pieces", [BARE] = "unconnected ports", [CUT] = "a cut port", [ANY] = "any rings"};
+
+static long compared, words[3], large_words[3], fullest, refusals[CALLS][MOST_REFUSAL + 1], sheets[SHEET_KINDS][2];
+
+static const char *seed;
+static long plates, at; /* how many, and which one it is */
 
 static void fail(const char *what) {
-  printf("DIFFERS: %s\n", what);
+  printf("DIFFERS: %s (seed %s, plate %ld of %ld)\n", what, seed, at, plates);
   exit(1);
 }
 
@@ -32,16 +48,21 @@ static void want(int holds, const char *what) {
 
 /* ---- lent buffers */
 
+enum { GUARD = 32, FILL = 0xA5, LISTING = 65536, ROOM = LISTING + 2000 };
+
 typedef struct {
-  uint8_t byte[ROOM + 2 * GUARD];
+  _Alignas(8) uint8_t byte[ROOM + 2 * GUARD];
   uint8_t before[ROOM];
   size_t n;
 } lent;
 
+static lent files, turns, lands, lengths, out, answers;
+
 static void *lend(lent *b, size_t n) {
-  memset(b->byte, FILL, sizeof b->byte);
-  for (size_t i = 0; i < n; i++) b->byte[GUARD + i] = (uint8_t)below(256);
-  memcpy(b->before, b->byte + GUARD, n);
+  memset(b->byte, FILL, GUARD);
+  for (size_t i = 0; i < n; i++) b->before[i] = (uint8_t)below(256);
+  memcpy(b->byte + GUARD, b->before, n);
+  memset(b->byte + GUARD + n, FILL, GUARD);
   b->n = n;
   return b->byte + GUARD;
 }
@@ -55,288 +76,291 @@ static void holds(const lent *b, const void *now, size_t m, const char *what) {
   compared++;
 }
 
-/* so many elements are lent: exactly as many as needed, more, or one too few */
-static size_t size_near(size_t need, int *too_few) {
-  int k = below(12);
-  if (k == 0 && need > 0) return *too_few = 1, need - 1;
-  return k < 4 ? need + (size_t)below(5) : need;
+/* so many elements are lent where `need` are needed: none, one, any too few, one too few; or as many, or more */
+static size_t size_near(size_t need, int too_few) {
+  if (!too_few) return below(2) ? need : need + (size_t)below(below(4) ? 5 : 300);
+  size_t few[] = {0, need > 1, (size_t)below((int)need), need - 1};
+  return few[below(4)];
 }
 
-static lent turns, lands, lengths, out;
-
-/* ---- the calls */
+/* ---- answers */
 
 /* 15 comes after the file's own refusals */
 static refusal lent_test(refusal r, int too_few) {
-  if (!r.number && too_few) r.number = 15, r.place = 0;
+  if (!r.number && too_few) r.number = PLATE_SHORT_BUFFER, r.place = 0;
   return r;
 }
 
+static void told(int a, int b, int c, int d, const char *what) {
+  uint64_t now[4] = {(uint64_t)a, (uint64_t)b, (uint64_t)c, (uint64_t)d};
+  holds(&answers, now, sizeof now, what);
+}
+
 /* a call refused is counted, and its answer compared */
-static int told_refusal(refusal r, const uint64_t answer[4], const char *what) {
+static int told_refusal(int by, refusal r, const char *what) {
   if (!r.number) return 0;
-  refusals[r.number]++;
-  want(answer[0] == 1 && answer[1] == (uint64_t)r.number && answer[2] == (uint64_t)r.place, what);
+  refusals[by][r.number]++;
+  told(1, r.number, r.place, 0, what);
   return 1;
 }
 
-static void compare_lay(const uint8_t *file, size_t n, const plate *p, refusal r, uint32_t cap) {
-  static layout l;
-  static uint16_t want_turn[2 * MOST_E], want_dart[2 * MOST_E], want_length[MOST_E];
-  uint64_t answer[4];
-  size_t darts = r.number ? 8 : 2 * (size_t)p->e, most = r.number ? 8 : (size_t)(p->e - p->v + 2);
-  int too_few = 0;
-  size_t a = size_near(darts, &too_few), b = size_near(darts, &too_few), c = size_near(most, &too_few);
-  uint16_t *t = lend(&turns, 2 * a), *d = lend(&lands, 2 * b), *m = lend(&lengths, 2 * c);
-  try_lay(file, n, cap, t, a, d, b, m, c, answer);
-  if (told_refusal(lent_test(r, too_few), answer, "the refusal of laying")) {
-    holds(&turns, NULL, 0, "turns of a refused laying");
-    holds(&lands, NULL, 0, "lands of a refused laying");
-    holds(&lengths, NULL, 0, "lengths of a refused laying");
+/* the mill's number for this refusal; for none, `otherwise` */
+static uint32_t mill_number(int by, refusal r, uint32_t otherwise) {
+  if (!r.number) return otherwise;
+  refusals[by][r.number]++;
+  return (uint32_t)r.number * 65536 + (uint32_t)r.place;
+}
+
+/* ---- any file */
+
+/* the part of the file that holds the pairs, none where r refuses it; few: less room than they need */
+static void compare_pairs(const uint8_t *file, size_t n, refusal r, int few) {
+  static uint16_t pair_byte[2 * MOST_E];
+  size_t need = r.number ? 0 : n - 8, a = size_near(need > 0 ? need : 8, few);
+  want(try_pairs(file, n, lend(&turns, 2 * a), a) == need, "how many bytes the pairs are");
+  for (size_t i = 0; i < need; i++) pair_byte[i] = file[8 + i];
+  holds(&turns, pair_byte, 2 * (need < a ? need : a), "the pairs");
+}
+
+/* ---- sheets */
+
+/* buffers in `few` (1 the darts, 2 the lengths) are too short */
+static void compare_read(const uint8_t *file, size_t n, refusal r, const judgement *j, int few) {
+  static uint16_t want_dart[2 * MOST_E], want_length[MOST_E];
+  size_t darts = r.number ? 8 : 2 * (size_t)j->e, most = r.number ? 8 : (size_t)j->e;
+  size_t a = size_near(darts, few & 1), b = size_near(most, few & 2);
+  try_read_sheet(file, n, lend(&lands, 2 * a), a, lend(&lengths, 2 * b), b, lend(&answers, 32));
+  if (told_refusal(READ, lent_test(r, few), "the refusal of a sheet")) {
+    holds(&lands, NULL, 0, "darts of a refused sheet");
+    holds(&lengths, NULL, 0, "lengths of a refused sheet");
     return;
   }
-  second_lay(p, cap, &l);
-  words[l.word]++;
-  want(answer[0] == 0 && answer[1] == (uint64_t)l.word, "the word");
-  want(answer[2] == (uint64_t)l.paths, "the number of paths");
-  want(answer[3] == (uint64_t)l.name, "the name");
-  size_t at = 0;
-  for (size_t i = 0; i < darts; i++) want_turn[i] = (uint16_t)l.turn[i], want_dart[i] = MISSING;
-  for (int i = 0; i < l.lands; i++)
-    for (int k = 0; k < l.length[i]; k++) want_dart[at++] = (uint16_t)l.dart[i][k];
-  for (size_t i = 0; i < most; i++) want_length[i] = i < (size_t)l.lands ? (uint16_t)l.length[i] : 0;
+  told(0, j->flat, j->lands, 0, "the count of a sheet");
+  for (size_t i = 0; i < darts; i++) want_dart[i] = (uint16_t)j->dart[i];
+  for (size_t i = 0; i < most; i++) want_length[i] = i < (size_t)j->lands ? (uint16_t)j->length[i] : 0;
+  holds(&lands, want_dart, 2 * darts, "the lands of a sheet");
+  holds(&lengths, want_length, 2 * most, "the lengths of a sheet");
+}
+
+/* whether it is flat; -1 where it is refused */
+static int compare_sheet(const uint8_t *given, size_t n) {
+  static judgement j;
+  static plate p;
+  uint8_t *file = lend(&files, n);
+  memcpy(file, given, n);
+  refusal r = second_judge(file, n, &j);
+  want(plate_judge_sheet(file, n) == mill_number(JUDGE, r, j.flat ? PLATE_FLAT : PLATE_NOT_FLAT), "the judge's number");
+  for (int few = 0; few < 4; few++) compare_read(file, n, r, &j, few);
+  compare_pairs(file, n, second_read_plate(file, n, &p), 0);
+  holds(&files, given, n, "the file of a sheet");
+  return r.number ? -1 : j.flat;
+}
+
+static void compare_damaged_sheet(uint8_t *file, size_t n, int e) {
+  for (int k = below(2); k >= 0; k--) n = damage(file, n, e, SHEET_BYTES);
+  compare_sheet(file, n);
+}
+
+/* a written sheet, and two drawn from it by another hand */
+static void compare_written(const plate *p, const layout *l) {
+  static sheet s;
+  static uint8_t file[MOST_BYTES];
+  s.p = *p;
+  memcpy(s.turn, l->turn, sizeof s.turn);
+  want(compare_sheet(file, sheet_file(&s, file)) == 1, "a written sheet is flat");
+  compare_damaged_sheet(file, sheet_file(&s, file), p->e);
+  keep_piece(&s);
+  reverse_ring(&s);
+  compare_sheet(file, sheet_file(&s, file));
+}
+
+/* ---- plates */
+
+/* a file, as the second program reads it, and its plate laid without a cap */
+typedef struct {
+  const uint8_t *file;
+  size_t n;
+  refusal r;
+  plate p;
+  layout whole;
+} reading;
+
+static void count_word(const plate *p, int word) {
+  words[word]++;
+  if (p->e >= LARGE) large_words[word]++;
+  if (p->v == MOST_V && p->e == MOST_E) fullest++;
+}
+
+static void compare_layout(const plate *p, const layout *l) {
+  static uint16_t want_turn[2 * MOST_E], want_dart[2 * MOST_E], want_length[MOST_E];
+  size_t darts = 2 * (size_t)p->e, most = (size_t)(p->e - p->v + 2), filled = 0;
+  count_word(p, l->word);
+  told(0, l->word, l->paths, l->name, "the word, the number of paths, the name");
+  for (size_t i = 0; i < darts; i++) want_turn[i] = (uint16_t)l->turn[i], want_dart[i] = MISSING;
+  for (int i = 0; i < l->lands; i++)
+    for (int k = 0; k < l->length[i]; k++) want_dart[filled++] = (uint16_t)l->dart[i][k];
+  for (size_t i = 0; i < most; i++) want_length[i] = i < (size_t)l->lands ? (uint16_t)l->length[i] : 0;
   holds(&turns, want_turn, 2 * darts, "the turns");
   holds(&lands, want_dart, 2 * darts, "the lands");
   holds(&lengths, want_length, 2 * most, "the lengths");
 }
 
-static uint32_t number(refusal r) { return (uint32_t)r.number * 65536 + (uint32_t)r.place; }
-
-static void compare_sheet(const uint8_t *file, size_t n) {
-  static judgement j;
-  static uint16_t want_dart[2 * MOST_E], want_length[MOST_E];
-  uint64_t answer[4];
-  refusal r = second_judge(file, n, &j);
-  want(plate_judge_sheet(file, n) == (r.number ? number(r) : (uint32_t)!j.flat), "the judge's number");
-  size_t darts = r.number ? 8 : 2 * (size_t)j.e, most = r.number ? 8 : (size_t)j.e;
-  int too_few = 0;
-  size_t a = size_near(darts, &too_few), b = size_near(most, &too_few);
-  uint16_t *d = lend(&lands, 2 * a), *m = lend(&lengths, 2 * b);
-  try_read_sheet(file, n, d, a, m, b, answer);
-  if (told_refusal(lent_test(r, too_few), answer, "the refusal of a sheet")) {
-    holds(&lands, NULL, 0, "darts of a refused sheet");
-    holds(&lengths, NULL, 0, "lengths of a refused sheet");
-    return;
-  }
-  want(answer[0] == 0 && answer[1] == (uint64_t)j.flat && answer[2] == (uint64_t)j.lands, "the count of a sheet");
-  for (size_t i = 0; i < darts; i++) want_dart[i] = (uint16_t)j.dart[i];
-  for (size_t i = 0; i < most; i++) want_length[i] = i < (size_t)j.lands ? (uint16_t)j.length[i] : 0;
-  holds(&lands, want_dart, 2 * darts, "the lands of a sheet");
-  holds(&lengths, want_length, 2 * most, "the lengths of a sheet");
-}
-
-/* Sheets drawn from this one by another hand: two turns of one port exchanged, a ring the other way round, a wild turn, a turn away. */
-static void compare_altered(uint8_t *sheet, const plate *p) {
-  static uint8_t other[8 + 6 * MOST_E];
-  size_t n = 8 + 6 * (size_t)p->e;
-  int darts = 2 * p->e, d = below(darts), e = below(darts);
-  uint8_t *turn = other + 8 + darts;
-  while (e == d || p->end[e] != p->end[d]) e = below(darts);
-  memcpy(other, sheet, n);
-  memcpy(turn + 2 * d, sheet + 8 + darts + 2 * e, 2);
-  memcpy(turn + 2 * e, sheet + 8 + darts + 2 * d, 2);
-  want(plate_judge_sheet(other, n) != PLATE_FLAT, "two turns exchanged");
-  compare_sheet(other, n);
-  memcpy(other, sheet, n); /* each dart of d's port turns to the one that turned to it */
-  for (int k = 0; k < darts; k++)
-    if (p->end[k] == p->end[d]) {
-      int to = sheet[8 + darts + 2 * k] + 256 * sheet[9 + darts + 2 * k];
-      turn[2 * to] = (uint8_t)(k % 256), turn[2 * to + 1] = (uint8_t)(k / 256);
-    }
-  compare_sheet(other, n);
-  memcpy(other, sheet, n);
-  turn[2 * d] = (uint8_t)below(256), turn[2 * d + 1] = (uint8_t)(below(4) ? below(5) : below(256));
-  compare_sheet(other, n);
-}
-
-static void compare_write(const uint8_t *file, size_t n, const plate *p, refusal r) {
+/* buffers in `few` (1 the turns, 2 the lands, 4 the lengths) are too short */
+static void compare_lay(const reading *g, uint32_t cap, int few) {
   static layout l;
-  static uint8_t sheet[8 + 6 * MOST_E];
-  size_t need = r.number ? 50 : 8 + 6 * (size_t)p->e;
-  int too_few = 0;
-  size_t a = size_near(need, &too_few);
-  uint8_t *o = lend(&out, a);
-  uint32_t answer = plate_write_sheet(file, n, o, a);
-  r = lent_test(r, too_few);
-  if (!r.number) {
-    second_lay(p, UINT32_MAX, &l);
-    if (l.word == STUCK) r.number = 16, r.place = l.name;
+  size_t darts = g->r.number ? 8 : 2 * (size_t)g->p.e, most = g->r.number ? 8 : (size_t)(g->p.e - g->p.v + 2);
+  size_t a = size_near(darts, few & 1), b = size_near(darts, few & 2), c = size_near(most, few & 4);
+  uint16_t *t = lend(&turns, 2 * a), *d = lend(&lands, 2 * b), *m = lend(&lengths, 2 * c);
+  try_lay(g->file, g->n, cap, t, a, d, b, m, c, lend(&answers, 32));
+  if (told_refusal(LAY, lent_test(g->r, few), "the refusal of laying")) {
+    holds(&turns, NULL, 0, "turns of a refused laying");
+    holds(&lands, NULL, 0, "lands of a refused laying");
+    holds(&lengths, NULL, 0, "lengths of a refused laying");
+  } else if (cap == UINT32_MAX) {
+    compare_layout(&g->p, &g->whole);
+  } else {
+    second_lay(&g->p, cap, &l);
+    compare_layout(&g->p, &l);
   }
-  if (r.number) {
-    refusals[r.number]++;
-    want(answer == number(r), "the writer's number");
-    holds(&out, NULL, 0, "the bytes of a refused sheet");
+}
+
+/* n: every one that can matter where the plate is small; else around the last path, and any */
+static void compare_caps(const reading *g) {
+  int most = g->p.e - g->p.v + 1;
+  compare_lay(g, UINT32_MAX, 0);
+  for (int few = 1; few < 8; few++) compare_lay(g, (uint32_t)below(40), few);
+  if (g->r.number) return;
+  if (g->p.e <= 20) {
+    for (int cap = 0; cap <= most; cap++) compare_lay(g, (uint32_t)cap, 0);
     return;
   }
-  want(answer == PLATE_DONE, "the writer's number");
-  second_sheet(p, &l, sheet);
-  holds(&out, sheet, need, "the bytes of a sheet");
-  want(plate_judge_sheet(sheet, need) == PLATE_FLAT, "a written sheet is flat");
-  compare_sheet(sheet, need);
-  compare_altered(sheet, p);
+  compare_lay(g, (uint32_t)below(6), 0);
+  compare_lay(g, (uint32_t)below(most + 1), 0);
+  compare_lay(g, (uint32_t)g->whole.paths, 0);
+  if (g->whole.paths > 0) compare_lay(g, (uint32_t)g->whole.paths - 1, 0);
 }
 
-static void compare_listing(const uint8_t *file, size_t n) {
+static void compare_write(const reading *g, int few) {
+  static uint8_t sheet[8 + 6 * MOST_E];
+  size_t need = g->r.number ? 50 : 8 + 6 * (size_t)g->p.e, a = size_near(need, few);
+  refusal r = lent_test(g->r, few);
+  if (!r.number && g->whole.word == STUCK) r.number = PLATE_STUCK, r.place = g->whole.name;
+  uint8_t *o = lend(&out, a);
+  want(plate_write_sheet(g->file, g->n, o, a) == mill_number(WRITE, r, PLATE_DONE), "the writer's number");
+  if (!r.number) second_sheet(&g->p, &g->whole, sheet);
+  holds(&out, sheet, r.number ? 0 : need, "the bytes of a written sheet");
+}
+
+/* a refused file has a listing too, so only the buffer is refused */
+static void compare_listing(const reading *g, int few) {
   static char text[1 << 20];
-  size_t want_n = second_listing(file, n, text);
-  size_t a = below(10) ? 65536 + (size_t)below(3) : 65535;
-  size_t m = try_listing(file, n, lend(&out, a), a);
-  want(m == (a < 65536 ? 0 : want_n), "the length of a listing");
-  holds(&out, text, m, "the bytes of a listing");
+  refusal none = {0, 0};
+  size_t need = second_listing(g->r, &g->p, &g->whole, text), a = size_near(LISTING, few);
+  try_listing(g->file, g->n, lend(&out, a), a, lend(&answers, 32));
+  if (told_refusal(LIST, lent_test(none, few), "the refusal of a listing")) {
+    holds(&out, NULL, 0, "the bytes of a refused listing");
+    return;
+  }
+  refusals[LISTED][g->r.number]++;
+  told(0, (int)need, 0, 0, "the length of a listing");
+  holds(&out, text, need, "the bytes of a listing");
 }
 
-static void compare(const uint8_t *file, size_t n) {
+static void compare_plate(const uint8_t *given, size_t n) {
+  static reading g;
+  uint8_t *file = lend(&files, n);
+  memcpy(file, given, n);
+  g.file = file, g.n = n;
+  g.r = second_read_plate(file, n, &g.p);
+  if (!g.r.number) second_lay(&g.p, UINT32_MAX, &g.whole);
+  compare_caps(&g);
+  for (int few = 0; few < 2; few++) {
+    compare_write(&g, few);
+    compare_listing(&g, few);
+    compare_pairs(file, n, g.r, few);
+  }
+  holds(&files, given, n, "the file of a plate");
+  if (!g.r.number && g.whole.word == FLAT) compare_written(&g.p, &g.whole);
+}
+
+static void compare_damaged_plate(uint8_t *file, size_t n, int e) {
+  for (int k = below(2); k >= 0; k--) n = damage(file, n, e, PAIR_BYTES);
+  compare_plate(file, n);
+  memcpy(file, "FTS", 3);
+  compare_sheet(file, n);
+}
+
+/* a sheet made by hand, the sheet damaged, and its pairs as a plate */
+static void compare_made_sheet(int kind, uint8_t *file) {
+  static sheet s;
+  make_sheet(kind, &s);
+  int flat = compare_sheet(file, sheet_file(&s, file));
+  if (flat >= 0) sheets[kind][flat]++;
+  if (s.p.e > 0) compare_damaged_sheet(file, sheet_file(&s, file), s.p.e);
+  if (kind != ANY) compare_plate(file, plate_file(&s.p, file));
+}
+
+/* ---- */
+
+enum { LARGE_EVERY = 20 };
+
+static void compare_all(void) {
+  static uint8_t file[MOST_BYTES];
   static plate p;
-  refusal r = second_read_plate(file, n, &p);
-  compare_lay(file, n, &p, r, UINT32_MAX);
-  compare_lay(file, n, &p, r, (uint32_t)below(6));
-  compare_lay(file, n, &p, r, (uint32_t)below(40));
-  compare_write(file, n, &p, r);
-  compare_listing(file, n);
-}
-
-/* ---- plates */
-
-static int v, e, end[2 * MOST_E];
-
-static int joined(int a, int b) {
-  for (int k = 0; k < e; k++)
-    if ((end[2 * k] == a && end[2 * k + 1] == b) || (end[2 * k] == b && end[2 * k + 1] == a)) return 1;
-  return a == b;
-}
-
-static void join(int a, int b) {
-  if (e < MOST_E && !joined(a, b)) end[2 * e] = a, end[2 * e + 1] = b, e++;
-}
-
-static void remove_channel(int k) {
-  e--;
-  end[2 * k] = end[2 * e], end[2 * k + 1] = end[2 * e + 1];
-}
-
-/* each new port is joined to the corners of a triangle: 3V - 6 channels */
-static void make_maximal(int ports) {
-  int triangle[2 * MOST_V][3] = {{0, 1, 2}, {0, 1, 2}}, n = 2;
-  v = ports, e = 0;
-  join(0, 1), join(0, 2), join(1, 2);
-  for (int p = 3; p < v; p++) {
-    int t = below(n), a = triangle[t][0], b = triangle[t][1], c = triangle[t][2];
-    join(a, p), join(b, p), join(c, p);
-    int more[3][3] = {{a, b, p}, {a, c, p}, {b, c, p}};
-    memcpy(triangle[t], more[0], sizeof more[0]);
-    memcpy(triangle[n++], more[1], sizeof more[1]);
-    memcpy(triangle[n++], more[2], sizeof more[2]);
+  for (at = 0; at < plates; at++) {
+    if (at % LARGE_EVERY == 0) make_large((int)(at / LARGE_EVERY % LARGE_KINDS), &p);
+    else make_plate(&p);
+    size_t n = plate_file(&p, file);
+    compare_plate(file, n);
+    if (at % 2 == 0 && p.e > 0) compare_damaged_plate(file, n, p.e);
+    if (at % 2 == 1) compare_made_sheet((int)(at / 2 % SHEET_KINDS), file);
   }
 }
 
-/* a ring, then chains of new ports from an old port to another */
-static void make_ears(int ports, int chains) {
-  v = 3 + below(4), e = 0;
-  for (int p = 0; p < v; p++) join(p, (p + 1) % v);
-  for (int i = 0; i < chains; i++) {
-    int a = below(v), b = below(v), between = v < ports ? below(ports - v + 1) % 4 : 0, old = v;
-    if (a == b) continue;
-    for (int k = 0, at = a; k <= between; k++) {
-      int to = k == between ? b : v++;
-      join(at, to), at = to;
-    }
-    if (v != old && between == 0) v = old;
-  }
+static void must_meet(long times, const char *what, int which) {
+  if (times > 0) return;
+  printf("NOT MET: %s %d (seed %s, %ld plates)\n", what, which, seed, plates);
+  exit(1);
 }
 
-static void make_plate(void) {
-  int size = below(20) ? 3 + below(14) : 3 + below(45);
-  switch (below(7)) {
-    case 0: make_maximal(size); break;
-    case 1:
-      make_maximal(size);
-      for (int k = below(1 + e / 3); k > 0 && e > 3; k--) remove_channel(below(e));
-      break;
-    case 2:
-      make_maximal(size);
-      for (int k = below(e); k > 0 && e > 3; k--) remove_channel(below(e));
-      for (int k = 1 + below(3); k > 0; k--) join(below(v), below(v));
-      break;
-    case 3:
-    case 4: make_ears(size, 1 + below(size)); break;
-    default:
-      v = 3 + below(6), e = 0;
-      for (int k = 3 + below(v * v); k > 0; k--) join(below(v), below(v));
-  }
-  int name[MOST_V]; /* other names, another order, some channels the other way round */
-  for (int p = 0; p < v; p++) name[p] = p;
-  for (int p = v - 1; p > 0; p--) {
-    int q = below(p + 1), x = name[p];
-    name[p] = name[q], name[q] = x;
-  }
-  for (int k = e - 1; k >= 0; k--) {
-    int j = below(k + 1), turn = below(2), a = end[2 * j], b = end[2 * j + 1];
-    end[2 * j] = end[2 * k], end[2 * j + 1] = end[2 * k + 1];
-    end[2 * k] = name[turn ? b : a], end[2 * k + 1] = name[turn ? a : b];
-  }
+/* everything that there is was met */
+static void all_met(void) {
+  for (int c = 0; c < CALLS; c++)
+    for (int k = 1; k <= MOST_REFUSAL; k++)
+      if (call[c].gives >> k & 1) must_meet(refusals[c][k], call[c].name, k);
+      else want(refusals[c][k] == 0, call[c].name);
+  for (int k = 0; k < 3; k++) must_meet(words[k], "word", k), must_meet(large_words[k], "word of a large plate", k);
+  for (int k = 0; k < SHEET_KINDS; k++)
+    for (int flat = 0; flat < 2; flat++) must_meet(sheets[k][flat], sheet_kind[k], flat);
+  must_meet(fullest, "200 ports and channels", MOST_E);
 }
 
-static size_t make_file(uint8_t *file) {
-  size_t n = 8 + 2 * (size_t)e;
-  memcpy(file, "FPL\1\0", 5);
-  file[5] = (uint8_t)v, file[6] = (uint8_t)(e % 256), file[7] = (uint8_t)(e / 256);
-  for (int d = 0; d < 2 * e; d++) file[8 + d] = (uint8_t)end[d];
-  return n;
-}
-
-static size_t damage(uint8_t *file, size_t n) {
-  switch (below(9)) {
-    case 0: return (size_t)below((int)n + 1);
-    case 1: file[n] = 0; return n + 1;
-    case 2: file[below(3)] ^= (uint8_t)(1 + below(255)); return n;
-    case 3: file[3 + below(2)] ^= (uint8_t)(1 + below(255)); return n;
-    case 4: file[5] = (uint8_t)(below(2) ? below(3) : 201 + below(55)); return n;
-    case 5: file[6] = (uint8_t)below(3), file[7] = 0; return n;
-    case 6: file[8 + below((int)n - 8)] = (uint8_t)below(256); return n;
-    case 7: {
-      size_t k = 8 + 2 * (size_t)below((int)(n - 8) / 2);
-      file[k] = file[k + 1];
-      return n;
-    }
-    default: {
-      size_t j = 8 + 2 * (size_t)below((int)(n - 8) / 2), k = 8 + 2 * (size_t)below((int)(n - 8) / 2);
-      file[j] = file[k + 1], file[j + 1] = file[k];
-      return n;
-    }
+static void print_counts(void) {
+  printf("seed %s: %ld plates, %ld facts compared; FLAT %ld, STUCK %ld, PARTIAL %ld; refusals", seed, plates, compared, words[FLAT],
+         words[STUCK], words[PARTIAL]);
+  for (int k = 1; k <= MOST_REFUSAL; k++) {
+    long all = 0;
+    for (int c = 0; c < LISTED; c++) all += refusals[c][k];
+    printf(" %ld", all);
   }
+  printf("\n  %d channels or more: FLAT %ld, STUCK %ld, PARTIAL %ld; 200 ports and 600 channels: %ld", LARGE, large_words[FLAT],
+         large_words[STUCK], large_words[PARTIAL], fullest);
+  printf("\n  sheets made by hand, flat and not flat:");
+  for (int k = 0; k < SHEET_KINDS; k++) printf("%s %s %ld %ld", k ? "," : "", sheet_kind[k], sheets[k][1], sheets[k][0]);
+  for (int c = 0; c < CALLS; c++) {
+    printf("\n  refusals of %s:", call[c].name);
+    for (int k = 1; k <= MOST_REFUSAL; k++)
+      if (call[c].gives >> k & 1) printf(" %d: %ld", k, refusals[c][k]);
+  }
+  printf("\n");
 }
 
 int main(int argc, char **argv) {
-  static uint8_t file[8 + 6 * MOST_E + 1];
   if (argc != 3) return printf("compare SEED PLATES\n"), 2;
-  seed = strtoull(argv[1], NULL, 10);
-  long plates = atol(argv[2]);
-  for (long i = 0; i < plates; i++) {
-    make_plate();
-    size_t n = make_file(file);
-    compare(file, n);
-    if (i % 4 == 0 && e > 0) {
-      n = damage(file, n);
-      compare(file, n);
-      memcpy(file, "FTS", n < 3 ? n : 3);
-      compare_sheet(file, n);
-    }
-  }
-  for (int k = 1; k <= 16; k++) want(refusals[k] > 0, "each refusal is met");
-  for (int k = 0; k < 3; k++) want(words[k] > 0, "each word is met");
-  printf("seed %s: %ld plates, %ld facts compared; FLAT %ld, STUCK %ld, PARTIAL %ld; refusals", argv[1], plates, compared,
-         words[FLAT], words[STUCK], words[PARTIAL]);
-  for (int k = 1; k <= 16; k++) printf(" %ld", refusals[k]);
-  printf("\n");
+  seed = argv[1], plates = atol(argv[2]);
+  set_seed(strtoull(seed, NULL, 10));
+  compare_all();
+  all_met();
+  print_counts();
   return 0;
 }

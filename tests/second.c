@@ -103,10 +103,20 @@ static void reverse_path(const int *q, int n, int *out) {
   for (int k = 0; k < n; k++) out[k] = q[n - 1 - k] ^ 1;
 }
 
-static int land_visits(const plate *p, const layout *l, int i, int port) {
-  for (int k = 0; k < l->length[i]; k++)
-    if (p->end[l->dart[i][k]] == port) return 1;
-  return 0;
+/* what a round begins with */
+typedef struct {
+  char laid[MOST_V];
+  char visits[MOST_E][MOST_V]; /* the land visits the port */
+} state;
+
+static void find_state(const plate *p, const layout *l, state *s) {
+  memset(s->laid, 0, sizeof s->laid);
+  memset(s->visits, 0, sizeof s->visits[0] * (size_t)l->lands);
+  for (int i = 0; i < l->lands; i++)
+    for (int k = 0; k < l->length[i]; k++) {
+      int port = p->end[l->dart[i][k]];
+      s->laid[port] = s->visits[i][port] = 1;
+    }
 }
 
 typedef struct {
@@ -116,7 +126,9 @@ typedef struct {
 } fragment;
 
 /* the fragment of the unlaid channel k */
-static void find_fragment(const plate *p, const layout *l, const char *laid, int k, fragment *f) {
+static void find_fragment(const plate *p, const layout *l, const state *s, int k, fragment *f) {
+  const char *laid = s->laid;
+  char touched[MOST_V] = {0};
   memset(f, 0, sizeof *f);
   f->name = k;
   f->channel[k] = 1;
@@ -126,14 +138,13 @@ static void find_fragment(const plate *p, const layout *l, const char *laid, int
     spread(p, f->port, laid);
     for (int j = 0; j < p->e; j++) f->channel[j] = f->port[p->end[2 * j]] || f->port[p->end[2 * j + 1]];
   }
-  for (int q = 0; q < p->v; q++) {
-    int touches = 0;
-    for (int d = 0; d < 2 * p->e; d++) touches |= f->channel[d / 2] && p->end[d] == q;
-    if (laid[q] && touches) f->contact[f->contacts++] = q;
-  }
+  for (int d = 0; d < 2 * p->e; d++)
+    if (f->channel[d / 2]) touched[p->end[d]] = 1;
+  for (int q = 0; q < p->v; q++)
+    if (laid[q] && touched[q]) f->contact[f->contacts++] = q;
   for (int i = 0; i < l->lands; i++) {
     int all = 1;
-    for (int c = 0; c < f->contacts; c++) all &= land_visits(p, l, i, f->contact[c]);
+    for (int c = 0; c < f->contacts; c++) all &= s->visits[i][f->contact[c]];
     if (all && f->fits++ == 0) f->land = i;
   }
 }
@@ -162,7 +173,7 @@ static void split(const plate *p, layout *l, const fragment *f) {
 void second_lay(const plate *p, uint32_t n, layout *l) {
   char ok[MOST_E], through[MOST_V];
   int back[MOST_E];
-  memset(l, 0, sizeof *l);
+  l->paths = 0;
   for (int d = 0; d < 2 * p->e; d++) l->turn[d] = MISSING;
   memset(ok, 1, sizeof ok);
   memset(through, 1, sizeof through);
@@ -174,17 +185,17 @@ void second_lay(const plate *p, uint32_t n, layout *l) {
   put_land(l, 1, back, l->cycle_length);
   l->lands = 2;
   for (;;) {
-    char laid[MOST_V] = {0}, met[MOST_E] = {0};
+    char met[MOST_E] = {0};
     int rest = 0, stuck = -1;
+    static state s;
     static fragment lowest, single, f;
     lowest.name = single.name = -1;
-    for (int d = 0; d < 2 * p->e; d++)
-      if (l->turn[d] != MISSING) laid[p->end[d]] = 1;
+    find_state(p, l, &s);
     for (int k = 0; k < p->e; k++) {
       if (l->turn[2 * k] != MISSING) continue;
       rest = 1;
       if (met[k]) continue;
-      find_fragment(p, l, laid, k, &f);
+      find_fragment(p, l, &s, k, &f);
       for (int j = 0; j < p->e; j++) met[j] |= f.channel[j];
       if (f.fits == 0 && stuck < 0) stuck = k;
       if (lowest.name < 0) lowest = f;
@@ -248,38 +259,34 @@ void second_sheet(const plate *p, const layout *l, uint8_t *out) {
 
 /* ---- the listing */
 
-size_t second_listing(const uint8_t *file, size_t n, char *out) {
-  static plate p;
-  static layout l;
+size_t second_listing(refusal r, const plate *p, const layout *l, char *out) {
   char *o = out;
-  refusal r = second_read_plate(file, n, &p);
   if (r.number) return (size_t)sprintf(out, "REFUSED %d %d\n", r.number, r.place);
-  second_lay(&p, UINT32_MAX, &l);
-  o += sprintf(o, "FPL 1 %d %d\ncycle", p.v, p.e);
-  for (int k = 0; k < l.cycle_length; k++) o += sprintf(o, " %d", p.end[l.cycle[k]]);
+  o += sprintf(o, "FPL 1 %d %d\ncycle", p->v, p->e);
+  for (int k = 0; k < l->cycle_length; k++) o += sprintf(o, " %d", p->end[l->cycle[k]]);
   o += sprintf(o, "\n");
-  for (int i = 0; i < l.paths; i++) {
-    laid_path *q = &l.path[i];
-    o += sprintf(o, "path %d %d %d", q->fragment, q->land, p.end[q->dart[0]]);
-    for (int k = 0; k < q->length; k++) o += sprintf(o, " %d", p.end[q->dart[k] ^ 1]);
+  for (int i = 0; i < l->paths; i++) {
+    const laid_path *q = &l->path[i];
+    o += sprintf(o, "path %d %d %d", q->fragment, q->land, p->end[q->dart[0]]);
+    for (int k = 0; k < q->length; k++) o += sprintf(o, " %d", p->end[q->dart[k] ^ 1]);
     o += sprintf(o, "\n");
   }
-  if (l.word == STUCK) return (size_t)(o + sprintf(o, "STUCK %d %d\n", l.paths, l.name) - out);
-  o += sprintf(o, "FLAT %d\n", l.paths);
-  for (int i = 0; i < l.lands; i++) {
+  if (l->word == STUCK) return (size_t)(o + sprintf(o, "STUCK %d %d\n", l->paths, l->name) - out);
+  o += sprintf(o, "FLAT %d\n", l->paths);
+  for (int i = 0; i < l->lands; i++) {
     o += sprintf(o, "land %d", i);
-    for (int k = 0; k < l.length[i]; k++) o += sprintf(o, " %d", l.dart[i][k]);
+    for (int k = 0; k < l->length[i]; k++) o += sprintf(o, " %d", l->dart[i][k]);
     o += sprintf(o, "\n");
   }
-  for (int q = 0; q < p.v; q++) {
+  for (int q = 0; q < p->v; q++) {
     int begin = -1;
-    for (int d = 2 * p.e - 1; d >= 0; d--)
-      if (p.end[d] == q) begin = d;
+    for (int d = 2 * p->e - 1; d >= 0; d--)
+      if (p->end[d] == q) begin = d;
     o += sprintf(o, "port %d", q);
     int d = begin;
     do {
       o += sprintf(o, " %d", d);
-      d = l.turn[d];
+      d = l->turn[d];
     } while (d != begin);
     o += sprintf(o, "\n");
   }

@@ -42,7 +42,7 @@ void second_lay(const plate *p, uint32_t n, layout *out);
 refusal second_judge(const uint8_t *file, size_t n, judgement *j);
 /* the bytes of the sheet, 8 + 6E of them, of a layout that is FLAT */
 void second_sheet(const plate *p, const layout *l, uint8_t *out);
-/* the listing of a file; its length */
-size_t second_listing(const uint8_t *file, size_t n, char *out);
+/* the listing of a file that is refused, or of its plate and the layout without a cap; its length */
+size_t second_listing(refusal r, const plate *p, const layout *l, char *out);
 
 #endif

@@ -10,7 +10,10 @@ void try_lay(const uint8_t *file, size_t file_length, uint32_t n, uint16_t *turn
 /* answer: 0, flat or not (1, 0), the number of lands, 0; or 1, the refusal's number, its place, 0 */
 void try_read_sheet(const uint8_t *file, size_t file_length, uint16_t *darts, size_t darts_length, uint16_t *lengths,
                     size_t lengths_length, uint64_t answer[4]);
-/* how many bytes the listing has; 0 where fewer than 65,536 are lent */
-size_t try_listing(const uint8_t *file, size_t file_length, uint8_t *out, size_t out_length);
+/* answer: 0, how many bytes the listing has, 0, 0; or 1, the refusal's number, its place, 0 */
+void try_listing(const uint8_t *file, size_t file_length, uint8_t *out, size_t out_length, uint64_t answer[4]);
+/* the pairs, as the reader hands them back (that part of the file; none where it is refused): answers how many bytes they are, and
+   copies them to the front of `ends`, as many as fit */
+size_t try_pairs(const uint8_t *file, size_t file_length, uint16_t *ends, size_t ends_length);
 
 #endif

@@ -159,7 +159,7 @@ void make_large(int kind, plate *p) {
   if (kind == MAXIMAL_AND_ONE || kind == GRID_AND_ONE) join_any(p, p->e + 1);
   if (kind == DENSE) join_any(p, LARGE + below(MOST_E - LARGE + 1));
   join_any(p, LARGE);
-  if (below(2)) rename_plate(p); /* else the channels that were added have the highest numbers */
+  if (kind != GRID_AND_ONE && below(2)) rename_plate(p); /* else the channels that were added have the highest numbers */
 }
 
 /* ---- sheets */

@@ -1,15 +1,16 @@
--- The rounds (rules, "Laying"), one after another: what each verdict makes of them.
---   Over said      a verdict of the code that is not to go on
--- judged: the verdict depends on turns and lands alone. ready-of: a verdict of the code to go on has a choice. going: a path laid is one of the rounds. ended, held-up: where a verdict ends them, and where no path is left.
+-- The rounds (rules, "Laying"), one after another: what follows each.
+-- judged: the verdict depends on turns and lands alone. ready-of: a verdict of the code to go on has a choice. lays-ready: where a path is laid, the round says so, and n are not laid yet. ended: where the round or n ends them. going: a path laid is one of the rounds.
 -- Assumes nothing.
 use mathlib.Core.Path.{_≡_, refl, sym, ap, _∙_, subst}
-use mathlib.Core.Logic.{_≢_, _⊎_, ⊎-elim}
+use mathlib.Core.Logic.{_≢_}
 use mathlib.Core.Bool.{Bool}
-use mathlib.Core.List.{List, [], _∷_, _++_}
+use mathlib.Core.List.{List, _++_}
 use Prim.Native.Nat.{ℕ, zero, suc, _+_, _-_, _*_, _<_, _≤_}
 use native.Mathlib.Omega.{arith}
+use lib.Dec.{eqb, eqb→eq}
 use lib.ListN.{length, getD, take, drop, replicate}
 use Rattle.rules.specs.Laying.{State, Choice, Verdict, flat, stuck, ready, FLAT, STUCK, PARTIAL, Outcome, choices, lay, judge, rounds, firstChannel, start, firstCycle, laying}
+use Rattle.laws.proofs.Tests.{cond-cases, neqb→ne}
 use Rattle.laws.proofs.Choices.{Open, Sensible, Ready as Go, choices-sensible, judge-ready}
 use Rattle.laws.proofs.Rounds.{Kept}
 use Rattle.numbers.proofs.Filling.{fill-whole}
@@ -21,9 +22,6 @@ use Rattle.fragment.specs.declared.Verdict.{Verdict as Said}
 use Rattle.fragment.specs.declared.Verdict.the-variants.{Flat as SaidFlat, Stuck as SaidStuck, Ready as SaidReady}
 use Rattle.fragment.specs.declared.Choice.{Choice as Named}
 use Rattle.fragment.specs.Fragments.{Wired, Lent}
-use Rattle.fragment.proofs.Verdict.{the-type}
-use types.Run.{OneOf}
-use denote.Enum.Declared.{tagOf}
 use Rattle.fragment.specs.Rounds.{stateOf, verdictOf, laidBy}
 use Rattle.fragment.specs.Bars.{Bars}
 use Rattle.fragment.proofs.Barring.{bars-none}
@@ -33,8 +31,9 @@ use Rattle.step.proofs.Telling.{lands-few, place-most, count-paths}
 use Rattle.step.proofs.Crossing.{wired-of, lent-of}
 use Rattle.rounds.specs.declared.Word.{Word}
 use Rattle.rounds.specs.declared.Word.the-variants.{Flat, Stuck, Partial}
-use Rattle.rounds.specs.declared.End.{End}
-use Rattle.rounds.specs.Words.{wordOf, wordIn, nameIn, saidOf}
+use Rattle.rounds.specs.declared.Next.{Next}
+use Rattle.rounds.specs.declared.Next.the-variants.{Ends, Lays}
+use Rattle.rounds.specs.Words.{saidByRound, saidByCap, firstSaid, afterRound, wordIn, nameIn, saidOf}
 use Rattle.rounds.specs.Rooms.{Under, Round, Left}
 
 -- ---- the verdict
@@ -76,11 +75,27 @@ unfolding rounds
 rounds-stuck v ends play zero s k h = ap (λ (j : Verdict). elim j as (λ w. Outcome) [ flat ↦ record { word = FLAT; name = 0; state = s } | stuck i ↦ record { word = STUCK; name = i; state = s } | ready c ↦ record { word = PARTIAL; name = 0; state = s } ]) h
 rounds-stuck v ends play (suc m) s k h = ap (λ (j : Verdict). elim j as (λ w. Outcome) [ flat ↦ record { word = FLAT; name = 0; state = s } | stuck i ↦ record { word = STUCK; name = i; state = s } | ready c ↦ rounds v ends play m (lay v ends play s c) ]) h
 
--- a verdict of the code that is not to go on
-abbrev pub Over : Said → Type 0
-Over SaidFlat = Unit {0}
-Over (SaidStuck k) = Unit {0}
-Over (SaidReady c) = ⊥
+-- ---- what follows a round
+
+-- what the round says, then what n says, the first of the two
+pub in-order : (said : Said) (p n : ℕ) (x y r : Next) → x ≡ saidByRound said → y ≡ saidByCap p n x → r ≡ firstSaid x y → r ≡ afterRound said p n
+in-order said p n x y r e f g = g ∙ ap (firstSaid x) f ∙ ap (λ (z : Next). firstSaid z (saidByCap p n z)) e
+
+-- the end of the laying is no path
+ends-lays : (w : Word) (c : Named) → Ends w ≡ Lays c → ⊥
+ends-lays w c h = let z : _≡_ {A = ℕ} 0 1 = cc in absurd (omega arith)
+
+-- where it ends, the word of a round to go on is PARTIAL, and n paths are laid
+ends-ready : (c : Named) (p n : ℕ) (w : Word) → Ends w ≡ afterRound (SaidReady c) p n → (w ≡ Partial) × (p ≡ n)
+ends-ready c p n w =
+    cond-cases (λ (x : Next). Ends w ≡ x → (w ≡ Partial) × (p ≡ n)) (eqb p n) (λ t h. (cc, eqb→eq p n t)) (λ t h. absurd (ends-lays w c h))
+
+-- where a path is laid, the round says so, and fewer than n are laid
+pub lays-ready : (said : Said) (c : Named) (p n : ℕ) → Lays c ≡ afterRound said p n → (said ≡ SaidReady c) × (p ≢ n)
+lays-ready SaidFlat c p n h = absurd (ends-lays Flat c (sym h))
+lays-ready (SaidStuck k) c p n h = absurd (ends-lays (Stuck k) c (sym h))
+lays-ready (SaidReady d) c p n h =
+    cond-cases (λ (x : Next). Lays c ≡ x → (SaidReady d ≡ SaidReady c) × (p ≢ n)) (eqb p n) (λ t e. absurd (ends-lays Partial c (sym e))) (λ t e. (cc, neqb→ne p n t)) h
 
 module _ (v : ℕ) (ends : List ℕ) (play : List Bool) (n : ℕ) (L : Plan v ends play) (t fs ns st : List ℕ) (count place : ℕ) (U : Under v ends play n t fs ns st count place) where
   abbrev s : State
@@ -93,38 +108,33 @@ module _ (v : ℕ) (ends : List ℕ) (play : List Bool) (n : ℕ) (L : Plan v en
   verdict said h = h ∙ ap verdictOf (judged v ends play s t fs ns count (U .stands .kept) (U .stands .holds))
 
   -- what is left, where the rounds end with the word w at s
-  left-so : (first more : List ℕ) → Tables v ends first more → (w : Word) (r : End) → rounds v ends play left s ≡ record { word = wordIn w; name = nameIn w; state = s } → r ≡ record { word = w; paths = count - 2; lands = count; story = place } → Left v ends play n first more t fs ns st r
-  left-so first more B w r e q =
+  left-so : (first more : List ℕ) → Tables v ends first more → (w : Word) → rounds v ends play left s ≡ record { word = wordIn w; name = nameIn w; state = s } → Left v ends play n first more t fs ns st (record { word = w; paths = count - 2; lands = count; story = place })
+  left-so first more B w e =
       let o : laying v ends play n ≡ record { word = wordIn w; name = nameIn w; state = s } = sym (U .goes) ∙ e in
       let p : count - 2 ≡ length (s .paths) = omega (arith, count-paths v ends play (L .layable) s t fs ns st count place (U .stands)) in
-      subst (Left v ends play n first more t fs ns st) (sym q)
-      (record {
+      record {
         said = ap (λ (m : ℕ). record { word = wordIn w; paths = m; name = nameIn w }) p ∙ ap saidOf (sym o);
         holds = subst (λ (z : Outcome). Holds (z .state) t fs ns count) (sym o) (U .stands .holds);
         told = U .stands .told ∙ ap (λ (z : Outcome). storyOf (firstCycle v ends play) (z .state .paths)) (sym o);
         most = place-most v ends play (L .layable) s t fs ns st count place (U .stands);
         tables = B;
-      })
+      }
 
-  pub ended : (first more : List ℕ) → Tables v ends first more → (said : Said) → said ≡ verdictOf (judge v ends play (stateOf t (lands t fs ns count))) → Over said → (r : End) → r ≡ record { word = wordOf said; paths = count - 2; lands = count; story = place } → Left v ends play n first more t fs ns st r
-  ended first more B said h over r q = go (judge v ends play s) refl said (verdict said h) over q
+  -- what is left, where the end with the word w follows the round
+  pub ended : (first more : List ℕ) → Tables v ends first more → (said : Said) → said ≡ verdictOf (judge v ends play (stateOf t (lands t fs ns count))) → (w : Word) → Ends w ≡ afterRound said (count - 2) n → Left v ends play n first more t fs ns st (record { word = w; paths = count - 2; lands = count; story = place })
+  ended first more B said h w e = go (judge v ends play s) refl (e ∙ ap (λ (d : Said). afterRound d (count - 2) n) (verdict said h))
     where
-      go : (j : Verdict) → judge v ends play s ≡ j → (d : Said) → d ≡ verdictOf j → Over d → r ≡ record { word = wordOf d; paths = count - 2; lands = count; story = place } → Left v ends play n first more t fs ns st r
-      go flat e d f o z = left-so first more B Flat r (rounds-flat v ends play left s e) (z ∙ ap (λ (m : Said). record { word = wordOf m; paths = count - 2; lands = count; story = place }) f)
-      go (stuck k) e d f o z = left-so first more B (Stuck k) r (rounds-stuck v ends play left s k e) (z ∙ ap (λ (m : Said). record { word = wordOf m; paths = count - 2; lands = count; story = place }) f)
-      go (ready a) e d f o z = absurd (subst Over f o)
-
-  pub ended-by : (first more : List ℕ) → Tables v ends first more → (said : Said) → said ≡ verdictOf (judge v ends play (stateOf t (lands t fs ns count))) → Over said → (w : Word) → w ≡ wordOf said → Left v ends play n first more t fs ns st (record { word = w; paths = count - 2; lands = count; story = place })
-  ended-by first more B said h over w e = ended first more B said h over (record { word = w; paths = count - 2; lands = count; story = place }) (ap (λ (x : Word). record { word = x; paths = count - 2; lands = count; story = place }) e)
+      go : (j : Verdict) → judge v ends play s ≡ j → Ends w ≡ afterRound (verdictOf j) (count - 2) n → Left v ends play n first more t fs ns st (record { word = w; paths = count - 2; lands = count; story = place })
+      go flat e f = let q : w ≡ Flat = cc in left-so first more B w (rounds-flat v ends play left s e ∙ ap (λ (x : Word). record { word = wordIn x; name = nameIn x; state = s }) (sym q))
+      go (stuck k) e f = let q : w ≡ Stuck k = cc in left-so first more B w (rounds-stuck v ends play left s k e ∙ ap (λ (x : Word). record { word = wordIn x; name = nameIn x; state = s }) (sym q))
+      go (ready a) e f =
+          let q = ends-ready _ (count - 2) n w f in
+          let z : left ≡ 0 = omega (arith, q .1, count-paths v ends play (L .layable) s t fs ns st count place (U .stands)) in
+          left-so first more B w (ap (λ (k : ℕ). rounds v ends play k s) z ∙ rounds-none v ends play s a e ∙ ap (λ (x : Word). record { word = wordIn x; name = nameIn x; state = s }) (sym (q .0)))
 
   module _ (c : Named) (h : SaidReady c ≡ verdictOf (judge v ends play (stateOf t (lands t fs ns count)))) where
     abbrev pub found : (e : Choice) × (judge v ends play s ≡ ready e) × (c .name ≡ e .fragment .name) × (c .land ≡ getD (e .fits) 0 0)
     found = ready-of (judge v ends play s) c (verdict (SaidReady c) h)
-
-    pub held-up : (first more : List ℕ) → Tables v ends first more → count - 2 ≡ n → (r : End) → r ≡ record { word = Partial; paths = count - 2; lands = count; story = place } → Left v ends play n first more t fs ns st r
-    held-up first more B m r q =
-        let z : left ≡ 0 = omega (arith, count-paths v ends play (L .layable) s t fs ns st count place (U .stands)) in
-        left-so first more B Partial r (ap (λ (k : ℕ). rounds v ends play k s) z ∙ rounds-none v ends play s (found .0) (found .1)) q
 
     sensible : Sensible v ends play s (found .0) × Open (found .0)
     sensible = subst (Go (λ e. Sensible v ends play s e × Open e)) (found .1) (judge-ready v ends play s (Sensible v ends play s) (choices-sensible v ends play s))
@@ -153,15 +163,6 @@ module _ (v : ℕ) (ends : List ℕ) (play : List Bool) (n : ℕ) (L : Plan v en
         }
 
 -- ---- one round of the code
-
-two-key : (_≡_ {A = ℕ} 2 0) ⊎ (_≡_ {A = ℕ} 2 1) → ⊥
-two-key h = ⊎-elim (λ e. absurd (omega (arith, e))) (λ e. absurd (omega (arith, e))) h
-
--- a verdict that is one of the first two ends the rounds
-pub over-of : (d : Said) → OneOf (0 ∷ 1 ∷ []) (tagOf the-type d) → Over d
-over-of SaidFlat h = tt
-over-of (SaidStuck k) h = tt
-over-of (SaidReady c) h = two-key h
 
 pub count-few : (v : ℕ) (ends : List ℕ) (play : List Bool) (n : ℕ) → Plan v ends play → (t fs ns st : List ℕ) (count place : ℕ) → Under v ends play n t fs ns st count place → (2 ≤ count) × (count ≤ length play + 2)
 count-few v ends play n L t fs ns st count place U = (

@@ -6,8 +6,9 @@ ghost use Rattle.reach.specs.Floods.{Tables};
 ghost use Rattle.land.specs.Walks.{lands};
 ghost use Rattle.fragment.specs.Bars.{Bars};
 ghost use Rattle.step.specs.Rooms.{Desk, Plan};
-ghost use Rattle.rounds.specs.Words.{wordOf};
+ghost use Rattle.rounds.specs.Words.{saidByRound, saidByCap, firstSaid, afterRound};
 ghost use Rattle.rounds.specs.Rooms.{Under, Left};
+use fragment::Choice;
 use fragment::Verdict;
 use numbers::fill;
 
@@ -26,15 +27,50 @@ pub struct End {
     pub story: usize,
 }
 
-// The word of a verdict; PARTIAL where a path could be laid.
-fn word_of(said: Verdict) -> Word
-    ensures { λ r. ⌜ r ≡ wordOf said ⌝ }
+// What follows a round: the end of the laying with its word, or a path for the choice.
+enum Next {
+    Ends(Word),
+    Lays(Choice),
+}
+
+// What the round says of itself: FLAT, STUCK, or the choice to lay a path for.
+fn said_by_round(said: Verdict) -> Next
+    ensures { λ r. ⌜ r ≡ saidByRound said ⌝ }
 {
     match said {
-        Verdict::Flat => Word::Flat,
-        Verdict::Stuck(k) => Word::Stuck(k),
-        Verdict::Ready(_) => Word::Partial,
+        Verdict::Flat => Next::Ends(Word::Flat),
+        Verdict::Stuck(k) => Next::Ends(Word::Stuck(k)),
+        Verdict::Ready(c) => Next::Lays(c),
     }
+}
+
+// What n says: PARTIAL where so many paths are laid; otherwise what follows is left as it is.
+fn said_by_cap(paths: usize, n: usize, next: Next) -> Next
+    ensures { λ r. ⌜ r ≡ saidByCap paths n next ⌝ }
+{
+    if paths == n {
+        return Next::Ends(Word::Partial);
+    }
+    next
+}
+
+// The first of two, or where it does not end the laying the second.
+fn first_said(first: Next, second: Next) -> Next
+    ensures { λ r. ⌜ r ≡ firstSaid first second ⌝ }
+{
+    match first {
+        Next::Ends(word) => Next::Ends(word),
+        Next::Lays(_) => second,
+    }
+}
+
+// What follows a round after so many paths: what it says of itself goes before n.
+fn after_round(said: Verdict, paths: usize, n: usize) -> Next
+    ensures { λ r. ⌜ r ≡ afterRound said paths n ⌝ }
+{
+    let by_round = said_by_round(said);
+    let by_cap = said_by_cap(paths, n, by_round);
+    first_said(by_round, by_cap)
 }
 
 // Lays path after path, n at most, from the first cycle on.
@@ -85,45 +121,42 @@ fn rounds(
             bars,
         );
         let paths = count - 2;
-        let Verdict::Ready(c) = said else {
-            return End {
-                word: word_of(said),
-                paths,
-                lands: count,
-                story: at,
-            };
-        };
-        if paths == n {
-            return End {
-                word: Word::Partial,
-                paths,
-                lands: count,
-                story: at,
-            };
+        let next = after_round(said, paths, n);
+        match next {
+            Next::Ends(word) => {
+                return End {
+                    word,
+                    paths,
+                    lands: count,
+                    story: at,
+                };
+            }
+            Next::Lays(c) => {
+                at = step::lay_one(
+                    ends,
+                    first,
+                    more,
+                    play,
+                    turns,
+                    firsts,
+                    lens,
+                    count,
+                    c.name,
+                    c.land,
+                    laid,
+                    marks,
+                    queue,
+                    touched,
+                    contacts,
+                    inside,
+                    own,
+                    story,
+                    at,
+                    bars,
+                );
+                count += 1;
+            }
         }
-        at = step::lay_one(
-            ends,
-            first,
-            more,
-            play,
-            turns,
-            firsts,
-            lens,
-            count,
-            c.name,
-            c.land,
-            laid,
-            marks,
-            queue,
-            touched,
-            contacts,
-            inside,
-            own,
-            story,
-            at,
-            bars,
-        );
-        count += 1;
     }
 }
 

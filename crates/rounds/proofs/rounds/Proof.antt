@@ -1,4 +1,4 @@
--- `rounds::rounds` meets its contract. The invariant: the slices hold a state on the way, from which the rounds that are left lead where the whole laying leads, and what is told of the lands holds (Round, Under). A verdict that ends the rounds ends them at that state; a verdict to go on has a choice, and the path laid for it is one of the rounds.
+-- `rounds::rounds` meets its contract. The invariant: the slices hold a state on the way, from which the rounds that are left lead where the whole laying leads, and what is told of the lands holds (Round, Under). What follows a round is the end at that state, or a path: then the round has a choice, and the path laid for it is one of the rounds.
 -- The measure is the channels and two less the lands: each path makes a land more, and there are at most two more than channels.
 -- Assumes nothing.
 use mathlib.Core.Path.{_≡_, refl, sym, _∙_}
@@ -7,7 +7,7 @@ use native.Mathlib.Omega.{arith}
 use borrow.Author.Needs.{needs}
 use lib.ListN.{length}
 use Rattle.rounds.specs.Rooms.{Round}
-use Rattle.rounds.proofs.Going.{ended-by, held-up, over-of, count-few, ask-judge, said-so, ask-lay, next-round}
+use Rattle.rounds.proofs.Going.{ended, lays-ready, count-few, ask-judge, said-so, ask-lay, next-round}
 use Rattle.rounds.proofs.rounds.Statement.{statement}
 use Rattle.rounds.proofs.rounds.Tie as tie
 
@@ -56,7 +56,8 @@ next c =
     let l = c .before .before .before .before .before .before .before .before .before .before .before .before .before .before .before .before .before .before .before .before .before .before in
     let j = at-judge l in
     let a = begin (head j) in
-    next-round _ _ _ _ (a .pre .0) _ _ (a .pre .1 .0) _ _ _ _ _ _ _ _ _ _ _ _ _ _ _ _ _ _ (head j .loop .inv) (j .judge .last .1 .1 .1 .1 .1 .1 .1 .1 .0) (j .judge .last .1 .1 .1 .1 .1 .1 .1 .1 .1 .0) (j .judge .last .1 .1 .1 .1 .1 .1 .1 .1 .1 .1 .0) (j .judge .last .1 .1 .1 .1 .1 .1 .1 .1 .1 .1 .1 .0) (j .judge .last .1 .1 .1 .1 .1 .1 .1 .1 .1 .1 .1 .1 .0) (j .judge .kept .1 .1 .1 .1 .1 .1 .1 .1 .0) (j .judge .kept .1 .1 .1 .1 .1 .1 .1 .1 .1 .0) (j .judge .kept .1 .1 .1 .1 .1 .1 .1 .1 .1 .1 .0) (j .judge .kept .1 .1 .1 .1 .1 .1 .1 .1 .1 .1 .1 .0) (j .judge .kept .1 .1 .1 .1 .1 .1 .1 .1 .1 .1 .1 .1 .0) (j .judge .ensures .1 .0) (j .judge .last .1 .1 .1 .1 .1 .1 .1 .1 .1 .1 .1 .1 .1 .0) (j .judge .ensures .1 .1) _ (sym (l .before .before .before .before .before .before .before .before .before .before .before .before .before .before .before .said .given .1) ∙ j .judge .ensures .0) (l .before .before .before .before .before .before .before .before .before .before .before .before .before .if1 .left)
+    let y = lays-ready (j .judge .result) _ (head j .loop .count - 2) (a .args .n) (sym (l .before .before .before .before .before .before .before .before .before .before .before .before .before .before .next2 .given .1) ∙ l .before .before .before .before .before .before .before .before .before .before .before .before .before .before .before .before .after-round .ensures) in
+    next-round _ _ _ _ (a .pre .0) _ _ (a .pre .1 .0) _ _ _ _ _ _ _ _ _ _ _ _ _ _ _ _ _ _ (head j .loop .inv) (j .judge .last .1 .1 .1 .1 .1 .1 .1 .1 .0) (j .judge .last .1 .1 .1 .1 .1 .1 .1 .1 .1 .0) (j .judge .last .1 .1 .1 .1 .1 .1 .1 .1 .1 .1 .0) (j .judge .last .1 .1 .1 .1 .1 .1 .1 .1 .1 .1 .1 .0) (j .judge .last .1 .1 .1 .1 .1 .1 .1 .1 .1 .1 .1 .1 .0) (j .judge .kept .1 .1 .1 .1 .1 .1 .1 .1 .0) (j .judge .kept .1 .1 .1 .1 .1 .1 .1 .1 .1 .0) (j .judge .kept .1 .1 .1 .1 .1 .1 .1 .1 .1 .1 .0) (j .judge .kept .1 .1 .1 .1 .1 .1 .1 .1 .1 .1 .1 .0) (j .judge .kept .1 .1 .1 .1 .1 .1 .1 .1 .1 .1 .1 .1 .0) (j .judge .ensures .1 .0) (j .judge .last .1 .1 .1 .1 .1 .1 .1 .1 .1 .1 .1 .1 .1 .0) (j .judge .ensures .1 .1) _ (sym (y .0) ∙ j .judge .ensures .0) (y .1)
     (l .lay-one .last .1 .1 .1 .1 .0) (l .lay-one .last .1 .1 .1 .1 .1 .0) (l .lay-one .last .1 .1 .1 .1 .1 .1 .0) (l .lay-one .last .1 .1 .1 .1 .1 .1 .1 .1 .1 .1 .1 .0) (l .lay-one .last .1 .1 .1 .1 .1 .1 .1 .1 .1 .1 .1 .1 .0) (l .lay-one .last .1 .1 .1 .1 .1 .1 .1 .1 .1 .1 .1 .1 .1 .0) (l .lay-one .last .1 .1 .1 .1 .1 .1 .1 .1 .1 .1 .1 .1 .1 .1 .0) (l .lay-one .last .1 .1 .1 .1 .1 .1 .1 .1 .1 .1 .1 .1 .1 .1 .1 .0) (l .lay-one .last .1 .1 .1 .1 .1 .1 .1 .1 .1 .1 .1 .1 .1 .1 .1 .1 .0) (l .lay-one .last .1 .1 .1 .1 .1 .1 .1 .1 .1 .1 .1 .1 .1 .1 .1 .1 .1 .0) _ (l .lay-one .last .1 .1 .1 .1 .1 .1 .1 .1 .1 .1 .1 .1 .1 .1 .1 .1 .1 .1 .1 .0) (l .lay-one .ensures .0) (l .lay-one .kept .1 .1 .1 .1 .0) (l .lay-one .kept .1 .1 .1 .1 .1 .0) (l .lay-one .kept .1 .1 .1 .1 .1 .1 .0) (l .lay-one .kept .1 .1 .1 .1 .1 .1 .1 .1 .1 .1 .1 .0) (l .lay-one .kept .1 .1 .1 .1 .1 .1 .1 .1 .1 .1 .1 .1 .0) (l .lay-one .kept .1 .1 .1 .1 .1 .1 .1 .1 .1 .1 .1 .1 .1 .0) (l .lay-one .kept .1 .1 .1 .1 .1 .1 .1 .1 .1 .1 .1 .1 .1 .1 .0) (l .lay-one .kept .1 .1 .1 .1 .1 .1 .1 .1 .1 .1 .1 .1 .1 .1 .1 .0) (l .lay-one .kept .1 .1 .1 .1 .1 .1 .1 .1 .1 .1 .1 .1 .1 .1 .1 .1 .0) (l .lay-one .kept .1 .1 .1 .1 .1 .1 .1 .1 .1 .1 .1 .1 .1 .1 .1 .1 .1 .0) (l .lay-one .ensures .1)
 
 loop-holds : tie.Need-loop-holds Inv-loop μ-loop
@@ -72,104 +73,65 @@ judge-requires c κs =
 sub-paths : tie.Need-sub-paths Inv-loop μ-loop
 sub-paths c = omega (arith, counted (head (c .before .before .before .before .before .before .before .before .before .before .before .before)))
 
-enum-known-said : tie.Need-enum-known-said Inv-loop μ-loop
-enum-known-said c = search needs
+after-round-requires : tie.Need-after-round-requires Inv-loop μ-loop
+after-round-requires c κs = search needs
 
-word-of-requires : tie.Need-word-of-requires Inv-loop μ-loop
-word-of-requires c κs = search needs
+enum-known-next : tie.Need-enum-known-next Inv-loop μ-loop
+enum-known-next c = search needs
 
 same-length : tie.Need-same-length Inv-loop μ-loop
-same-length c = head (c .before .before .before .before .before .before .before .before .before .before .before .before .before .before) .loop .inv .ofTurns
+same-length c = head (c .before .before .before .before .before .before .before .before .before .before .before .before .before .before .before .before) .loop .inv .ofTurns
 
 same-length-2 : tie.Need-same-length-2 Inv-loop μ-loop
-same-length-2 c = head (c .before .before .before .before .before .before .before .before .before .before .before .before .before .before) .loop .inv .ofFirsts
+same-length-2 c = head (c .before .before .before .before .before .before .before .before .before .before .before .before .before .before .before .before) .loop .inv .ofFirsts
 
 same-length-3 : tie.Need-same-length-3 Inv-loop μ-loop
-same-length-3 c = head (c .before .before .before .before .before .before .before .before .before .before .before .before .before .before) .loop .inv .ofLens
+same-length-3 c = head (c .before .before .before .before .before .before .before .before .before .before .before .before .before .before .before .before) .loop .inv .ofLens
 
 same-length-4 : tie.Need-same-length-4 Inv-loop μ-loop
-same-length-4 c = laid-long (c .before .before .before .before .before .before .before .before .before .before .before .before .before .before)
+same-length-4 c = laid-long (c .before .before .before .before .before .before .before .before .before .before .before .before .before .before .before .before)
 
 same-length-5 : tie.Need-same-length-5 Inv-loop μ-loop
-same-length-5 c = marks-long (c .before .before .before .before .before .before .before .before .before .before .before .before .before .before)
+same-length-5 c = marks-long (c .before .before .before .before .before .before .before .before .before .before .before .before .before .before .before .before)
 
 same-length-6 : tie.Need-same-length-6 Inv-loop μ-loop
-same-length-6 c = queue-long (c .before .before .before .before .before .before .before .before .before .before .before .before .before .before)
+same-length-6 c = queue-long (c .before .before .before .before .before .before .before .before .before .before .before .before .before .before .before .before)
 
 same-length-7 : tie.Need-same-length-7 Inv-loop μ-loop
-same-length-7 c = touched-long (c .before .before .before .before .before .before .before .before .before .before .before .before .before .before)
+same-length-7 c = touched-long (c .before .before .before .before .before .before .before .before .before .before .before .before .before .before .before .before)
 
 same-length-8 : tie.Need-same-length-8 Inv-loop μ-loop
-same-length-8 c = contacts-long (c .before .before .before .before .before .before .before .before .before .before .before .before .before .before)
+same-length-8 c = contacts-long (c .before .before .before .before .before .before .before .before .before .before .before .before .before .before .before .before)
 
 same-length-9 : tie.Need-same-length-9 Inv-loop μ-loop
-same-length-9 c = head (c .before .before .before .before .before .before .before .before .before .before .before .before .before .before) .loop .inv .desk .ofInside ∙ sym (begin (head (c .before .before .before .before .before .before .before .before .before .before .before .before .before .before)) .pre .1 .1 .0 .ofInside)
+same-length-9 c = head (c .before .before .before .before .before .before .before .before .before .before .before .before .before .before .before .before) .loop .inv .desk .ofInside ∙ sym (begin (head (c .before .before .before .before .before .before .before .before .before .before .before .before .before .before .before .before)) .pre .1 .1 .0 .ofInside)
 
 same-length-10 : tie.Need-same-length-10 Inv-loop μ-loop
-same-length-10 c = head (c .before .before .before .before .before .before .before .before .before .before .before .before .before .before) .loop .inv .desk .ofOwn ∙ sym (begin (head (c .before .before .before .before .before .before .before .before .before .before .before .before .before .before)) .pre .1 .1 .0 .ofOwn)
+same-length-10 c = head (c .before .before .before .before .before .before .before .before .before .before .before .before .before .before .before .before) .loop .inv .desk .ofOwn ∙ sym (begin (head (c .before .before .before .before .before .before .before .before .before .before .before .before .before .before .before .before)) .pre .1 .1 .0 .ofOwn)
 
 same-length-11 : tie.Need-same-length-11 Inv-loop μ-loop
-same-length-11 c = head (c .before .before .before .before .before .before .before .before .before .before .before .before .before .before) .loop .inv .ofStory
+same-length-11 c = head (c .before .before .before .before .before .before .before .before .before .before .before .before .before .before .before .before) .loop .inv .ofStory
 
 same-length-12 : tie.Need-same-length-12 Inv-loop μ-loop
-same-length-12 c = bars-long (c .before .before .before .before .before .before .before .before .before .before .before .before .before .before)
+same-length-12 c = bars-long (c .before .before .before .before .before .before .before .before .before .before .before .before .before .before .before .before)
 
 returns : tie.Need-returns Inv-loop μ-loop
 returns c =
-    let j = c .before .before .before .before .before .before .before .before .before .before .before .before .before .before in
-    let h = head j in
-    let a = begin h in
-    ended-by _ _ _ _ (a .pre .0) _ _ _ _ _ _ (h .loop .inv .under) _ _ (a .pre .1 .0) _ (said-so _ _ _ _ (a .pre .0) _ _ (a .pre .1 .0) _ _ _ _ _ _ _ _ _ _ _ _ _ _ _ _ _ _ (h .loop .inv) _ (j .judge .ensures .0)) (over-of (j .judge .result) (c .before .match .keys2)) _ (c .word-of .ensures)
-
-same-length-13 : tie.Need-same-length-13 Inv-loop μ-loop
-same-length-13 c = head (c .before .before .before .before .before .before .before .before .before .before .before .before .before .before .before .before) .loop .inv .ofTurns
-
-same-length-14 : tie.Need-same-length-14 Inv-loop μ-loop
-same-length-14 c = head (c .before .before .before .before .before .before .before .before .before .before .before .before .before .before .before .before) .loop .inv .ofFirsts
-
-same-length-15 : tie.Need-same-length-15 Inv-loop μ-loop
-same-length-15 c = head (c .before .before .before .before .before .before .before .before .before .before .before .before .before .before .before .before) .loop .inv .ofLens
-
-same-length-16 : tie.Need-same-length-16 Inv-loop μ-loop
-same-length-16 c = laid-long (c .before .before .before .before .before .before .before .before .before .before .before .before .before .before .before .before)
-
-same-length-17 : tie.Need-same-length-17 Inv-loop μ-loop
-same-length-17 c = marks-long (c .before .before .before .before .before .before .before .before .before .before .before .before .before .before .before .before)
-
-same-length-18 : tie.Need-same-length-18 Inv-loop μ-loop
-same-length-18 c = queue-long (c .before .before .before .before .before .before .before .before .before .before .before .before .before .before .before .before)
-
-same-length-19 : tie.Need-same-length-19 Inv-loop μ-loop
-same-length-19 c = touched-long (c .before .before .before .before .before .before .before .before .before .before .before .before .before .before .before .before)
-
-same-length-20 : tie.Need-same-length-20 Inv-loop μ-loop
-same-length-20 c = contacts-long (c .before .before .before .before .before .before .before .before .before .before .before .before .before .before .before .before)
-
-same-length-21 : tie.Need-same-length-21 Inv-loop μ-loop
-same-length-21 c = head (c .before .before .before .before .before .before .before .before .before .before .before .before .before .before .before .before) .loop .inv .desk .ofInside ∙ sym (begin (head (c .before .before .before .before .before .before .before .before .before .before .before .before .before .before .before .before)) .pre .1 .1 .0 .ofInside)
-
-same-length-22 : tie.Need-same-length-22 Inv-loop μ-loop
-same-length-22 c = head (c .before .before .before .before .before .before .before .before .before .before .before .before .before .before .before .before) .loop .inv .desk .ofOwn ∙ sym (begin (head (c .before .before .before .before .before .before .before .before .before .before .before .before .before .before .before .before)) .pre .1 .1 .0 .ofOwn)
-
-same-length-23 : tie.Need-same-length-23 Inv-loop μ-loop
-same-length-23 c = head (c .before .before .before .before .before .before .before .before .before .before .before .before .before .before .before .before) .loop .inv .ofStory
-
-same-length-24 : tie.Need-same-length-24 Inv-loop μ-loop
-same-length-24 c = bars-long (c .before .before .before .before .before .before .before .before .before .before .before .before .before .before .before .before)
-
-returns-2 : tie.Need-returns-2 Inv-loop μ-loop
-returns-2 c =
     let j = c .before .before .before .before .before .before .before .before .before .before .before .before .before .before .before .before in
     let h = head j in
     let a = begin h in
-    held-up _ _ _ _ (a .pre .0) _ _ _ _ _ _ (h .loop .inv .under) _ (said-so _ _ _ _ (a .pre .0) _ _ (a .pre .1 .0) _ _ _ _ _ _ _ _ _ _ _ _ _ _ _ _ _ _ (h .loop .inv) _ (sym (c .before .before .said .given .1) ∙ j .judge .ensures .0)) _ _ (a .pre .1 .0) (c .if1 .taken) _ refl
+    ended _ _ _ _ (a .pre .0) _ _ _ _ _ _ (h .loop .inv .under) _ _ (a .pre .1 .0) _ (said-so _ _ _ _ (a .pre .0) _ _ (a .pre .1 .0) _ _ _ _ _ _ _ _ _ _ _ _ _ _ _ _ _ _ (h .loop .inv) _ (j .judge .ensures .0)) _ (sym (c .before .next .given .1) ∙ c .before .before .before .after-round .ensures)
+
+enum-known-next-2 : tie.Need-enum-known-next-2 Inv-loop μ-loop
+enum-known-next-2 c = search needs
 
 lay-one-requires : tie.Need-lay-one-requires Inv-loop μ-loop
 lay-one-requires c κs =
     let j = c .before .before .before .before .before .before .before .before .before .before .before .before .before .before .before .before .before .before .before .before .before .before .before .before .before .before .before .before in
     let h = head j in
     let a = begin h in
-    ask-lay _ _ _ _ (a .pre .0) _ _ (a .pre .1 .0) _ _ _ _ _ _ _ _ _ _ _ _ _ _ _ _ _ _ (h .loop .inv) (j .judge .last .1 .1 .1 .1 .1 .1 .1 .1 .0) (j .judge .last .1 .1 .1 .1 .1 .1 .1 .1 .1 .0) (j .judge .last .1 .1 .1 .1 .1 .1 .1 .1 .1 .1 .0) (j .judge .last .1 .1 .1 .1 .1 .1 .1 .1 .1 .1 .1 .0) (j .judge .last .1 .1 .1 .1 .1 .1 .1 .1 .1 .1 .1 .1 .0) (j .judge .kept .1 .1 .1 .1 .1 .1 .1 .1 .0) (j .judge .kept .1 .1 .1 .1 .1 .1 .1 .1 .1 .0) (j .judge .kept .1 .1 .1 .1 .1 .1 .1 .1 .1 .1 .0) (j .judge .kept .1 .1 .1 .1 .1 .1 .1 .1 .1 .1 .1 .0) (j .judge .kept .1 .1 .1 .1 .1 .1 .1 .1 .1 .1 .1 .1 .0) (j .judge .ensures .1 .0) (j .judge .last .1 .1 .1 .1 .1 .1 .1 .1 .1 .1 .1 .1 .1 .0) (j .judge .ensures .1 .1) _ (sym (c .before .before .before .before .before .before .before .before .before .before .before .before .before .before .said .given .1) ∙ j .judge .ensures .0)
+    let y = lays-ready (j .judge .result) _ (head j .loop .count - 2) (a .args .n) (sym (c .before .before .before .before .before .before .before .before .before .before .before .before .before .next2 .given .1) ∙ c .before .before .before .before .before .before .before .before .before .before .before .before .before .before .before .after-round .ensures) in
+    ask-lay _ _ _ _ (a .pre .0) _ _ (a .pre .1 .0) _ _ _ _ _ _ _ _ _ _ _ _ _ _ _ _ _ _ (h .loop .inv) (j .judge .last .1 .1 .1 .1 .1 .1 .1 .1 .0) (j .judge .last .1 .1 .1 .1 .1 .1 .1 .1 .1 .0) (j .judge .last .1 .1 .1 .1 .1 .1 .1 .1 .1 .1 .0) (j .judge .last .1 .1 .1 .1 .1 .1 .1 .1 .1 .1 .1 .0) (j .judge .last .1 .1 .1 .1 .1 .1 .1 .1 .1 .1 .1 .1 .0) (j .judge .kept .1 .1 .1 .1 .1 .1 .1 .1 .0) (j .judge .kept .1 .1 .1 .1 .1 .1 .1 .1 .1 .0) (j .judge .kept .1 .1 .1 .1 .1 .1 .1 .1 .1 .1 .0) (j .judge .kept .1 .1 .1 .1 .1 .1 .1 .1 .1 .1 .1 .0) (j .judge .kept .1 .1 .1 .1 .1 .1 .1 .1 .1 .1 .1 .1 .0) (j .judge .ensures .1 .0) (j .judge .last .1 .1 .1 .1 .1 .1 .1 .1 .1 .1 .1 .1 .1 .0) (j .judge .ensures .1 .1) _ (sym (y .0) ∙ j .judge .ensures .0)
 
 add-count : tie.Need-add-count Inv-loop μ-loop
 add-count c =
@@ -193,8 +155,8 @@ rounds-spec =
     loop-holds
     judge-requires
     sub-paths
-    enum-known-said
-    word-of-requires
+    after-round-requires
+    enum-known-next
     same-length
     same-length-2
     same-length-3
@@ -208,19 +170,7 @@ rounds-spec =
     same-length-11
     same-length-12
     returns
-    same-length-13
-    same-length-14
-    same-length-15
-    same-length-16
-    same-length-17
-    same-length-18
-    same-length-19
-    same-length-20
-    same-length-21
-    same-length-22
-    same-length-23
-    same-length-24
-    returns-2
+    enum-known-next-2
     lay-one-requires
     add-count
     loop-less

@@ -37,10 +37,10 @@ module _ (v : ℕ) (ends : List ℕ) (play : List Bool) (n : ℕ) (t₀ l₀ ns�
   few : length (concat (o .state .lands)) ≤ length ends
   few = omega (arith, length-concat (o .state .lands), lands-few v ends play (F .plan .layable) (o .state) K, F .plan .layable .size2)
 
-  pub ask-out : Walkable t fs ns (r .lands) × ((length (concat (lands t fs ns (r .lands))) ≤ length l₀) × (r .lands ≤ length ns₀))
-  ask-out = (
+  pub ask-out : (m : ℕ) → m ≡ length ends → Walkable t fs ns (r .lands) × ((length (concat (lands t fs ns (r .lands))) ≤ m) × (r .lands ≤ length ns₀))
+  ask-out m e = (
     holds-walkable ends play (o .state) K t fs ns (r .lands) (E .holds) v (F .plan .layable),
-    (rw same (omega (arith, few, F .ofLands)), omega (arith, E .holds .count, F .ofLengths)),
+    (rw same (omega (arith, few)), omega (arith, E .holds .count, F .ofLengths)),
   )
 
   pub sheet-of : (l′ ns′ : List ℕ) (a : Laid) → l′ ≡ concat (lands t fs ns (r .lands)) ++ replicate (length l₀ - length (concat (lands t fs ns (r .lands)))) missing

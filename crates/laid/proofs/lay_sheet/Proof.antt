@@ -1,15 +1,16 @@
 -- `laid::lay_sheet` meets its contract: the lands that laying holds are written out, and its end is answered (Laying).
 -- Assumes nothing.
+use native.Mathlib.Omega.{arith}
 use Rattle.laid.proofs.Laying.{ask-out, sheet-of}
 use borrow.Author.Needs.{needs}
 use Rattle.laid.proofs.lay_sheet.Statement.{statement}
 use Rattle.laid.proofs.lay_sheet.Tie as tie
 
 lay-out-requires : tie.Need-lay-out-requires
-lay-out-requires c κs = let a = c .before .before .before .before .before .before .before .before .before .before .before .before .before .before .before .before .pre in (a .0 .plan, (a .0 .ports, (a .0 .channels, (a .1 .0, (a .0 .ofTurns, (a .1 .1 .0, (a .1 .1 .1 .0, a .1 .1 .1 .1)))))))
+lay-out-requires c κs = let F = c .before .before .before .before .before .before .before .before .before .before .before .before .before .before .before .before .pre .0 in (F .plan, (F .ports, (F .channels, (omega (arith, F .ofTurns), (omega (arith, F .ofTurns), (search needs, (search needs, search needs)))))))
 
 write-out-requires : tie.Need-write-out-requires
-write-out-requires c κs = ask-out _ _ _ _ _ _ _ (c .before .before .before .before .before .before .before .before .before .before .before .before .before .before .before .before .before .before .before .before .before .before .before .before .before .before .before .before .before .before .before .before .before .before .pre .0) _ _ _ _ _ _ _ (c .before .before .before .before .before .before .before .before .before .before .before .before .before .before .before .before .before .lay-out .ensures)
+write-out-requires c κs = let a = c .before .before .before .before .before .before .before .before .before .before .before .before .before .before .before .before .before .before .before .before .before .before .before .before .before .before .before .before .before .before .before .before .before .before .pre in ask-out _ _ _ _ _ _ _ (a .0) _ _ _ _ _ _ _ (c .before .before .before .before .before .before .before .before .before .before .before .before .before .before .before .before .before .lay-out .ensures) _ (omega (arith, a .0 .ofLands, a .1 .0))
 
 laid-of-requires : tie.Need-laid-of-requires
 laid-of-requires c κs = search needs

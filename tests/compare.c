@@ -31,7 +31,7 @@ static const struct {
 static const char *const sheet_kind[SHEET_KINDS] = {
     [APART] = "two pieces", [BARE] = "unconnected ports", [CUT] = "a cut port", [ANY] = "any rings"};
 
-static long compared, words[3], large_words[3], fullest, refusals[CALLS][MOST_REFUSAL + 1], sheets[SHEET_KINDS][2];
+static long compared, words[3], large_words[3], large_names, fullest, refusals[CALLS][MOST_REFUSAL + 1], sheets[SHEET_KINDS][2];
 
 static const char *seed;
 static long plates, at; /* how many, and which one it is */
@@ -185,16 +185,17 @@ typedef struct {
   layout whole;
 } reading;
 
-static void count_word(const plate *p, int word) {
-  words[word]++;
-  if (p->e >= LARGE) large_words[word]++;
+static void count_word(const plate *p, const layout *l) {
+  words[l->word]++;
+  if (p->e >= LARGE) large_words[l->word]++;
+  if (l->name >= LARGE) large_names++;
   if (p->v == MOST_V && p->e == MOST_E) fullest++;
 }
 
 static void compare_layout(const plate *p, const layout *l) {
   static uint16_t want_turn[2 * MOST_E], want_dart[2 * MOST_E], want_length[MOST_E];
   size_t darts = 2 * (size_t)p->e, most = (size_t)(p->e - p->v + 2), filled = 0;
-  count_word(p, l->word);
+  count_word(p, l);
   told(0, l->word, l->paths, l->name, "the word, the number of paths, the name");
   for (size_t i = 0; i < darts; i++) want_turn[i] = (uint16_t)l->turn[i], want_dart[i] = MISSING;
   for (int i = 0; i < l->lands; i++)
@@ -332,6 +333,7 @@ static void all_met(void) {
   for (int k = 0; k < 3; k++) must_meet(words[k], "word", k), must_meet(large_words[k], "word of a large plate", k);
   for (int k = 0; k < SHEET_KINDS; k++)
     for (int flat = 0; flat < 2; flat++) must_meet(sheets[k][flat], sheet_kind[k], flat);
+  must_meet(large_names, "a fragment named", LARGE);
   must_meet(fullest, "200 ports and channels", MOST_E);
 }
 

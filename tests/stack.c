@@ -26,7 +26,10 @@ static void read_sheet(void) {
   uint64_t answer[4];
   try_read_sheet(sheet, PLATE_SHEET_BYTES(file[6] + 256 * file[7]), lands, 1200, lengths, 600, answer);
 }
-static void list(void) { try_listing(file, n, text, sizeof text); }
+static void list(void) {
+  uint64_t answer[4];
+  try_listing(file, n, text, sizeof text, answer);
+}
 
 static long used(void (*call)(void)) {
   memset(stack, PAINT, sizeof stack);

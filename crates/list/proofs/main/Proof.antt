@@ -25,17 +25,26 @@ slice-aggregate-listing-2 c = search needs
 listing-requires : tie.Need-listing-requires
 listing-requires c κs = search needs
 
+enum-known-got : tie.Need-enum-known-got
+enum-known-got c = search needs
+
+enum-told : tie.Need-enum-told
+enum-told c = search needs
+
+returns : tie.Need-returns
+returns c = search needs
+
 array-share-prefix-out : tie.Need-array-share-prefix-out
-array-share-prefix-out c = count-within _ _ _ _ (c .before .listing .ensures .0) (c .before .listing .kept .1 .0)
+array-share-prefix-out c = count-within _ _ _ _ _ (c .before .got .given .1) (c .before .before .before .before .listing .ensures .0) (c .before .before .before .before .listing .kept .1 .0)
 
 slice-aggregate-write-all : tie.Need-slice-aggregate-write-all
-slice-aggregate-write-all c = sym (length-take-le _ _ (count-within _ _ _ _ (c .before .before .listing .ensures .0) (c .before .before .listing .kept .1 .0)))
+slice-aggregate-write-all c = sym (length-take-le _ _ (array-share-prefix-out (c .before)))
 
 write-all-requires : tie.Need-write-all-requires
 write-all-requires c κs = search needs
 
-returns : tie.Need-returns
-returns c = search needs
+returns-2 : tie.Need-returns-2
+returns-2 c = search needs
 
 pub main-spec : {M : Type 1} → statement M
 main-spec =
@@ -47,7 +56,10 @@ main-spec =
     slice-aggregate-listing
     slice-aggregate-listing-2
     listing-requires
+    enum-known-got
+    enum-told
+    returns
     array-share-prefix-out
     slice-aggregate-write-all
     write-all-requires
-    returns)
+    returns-2)

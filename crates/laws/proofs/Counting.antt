@@ -5,7 +5,7 @@
 --   is_laid p                 port p is left by a laid dart
 --   IsWord w v               v is the word w
 --   Flat P v                 P holds where the verdict v is flat
--- length_full: a list that has all of 0, 1, .., n − 1 is that long. count_rows_lem, rows-..: what is kept of 0, 1, .., n − 1. length_laid, darts_counted: the darts of all lands are two for each laid channel.
+-- length_full: a list that has all of 0, 1, .., n − 1 is that long. count_rows_lem, rows_..: what is kept of 0, 1, .., n − 1. length_laid, darts_counted: the darts of all lands are two for each laid channel.
 -- ports_counted: laid ports + lands = laid channels + 2. paths_counted: paths + laid ports = laid channels. tree, missing_ports: in one piece, as long as a port is missing a channel leads to it from those that are there, so that missing ports are no more than missing channels.
 -- rounds_cases: a thing of the rounds by what each round says. rounds_flat: FLAT says that all channels in play are laid. rounds_partial: PARTIAL says that n paths are laid.
 -- ports-, paths-, darts_laid_out, and paths-, lands-, darts_most: so it is with every plate that is read, laid with at most n paths. flat_laid, paths_flat, lands_flat: and so where the word is FLAT.

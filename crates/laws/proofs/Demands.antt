@@ -2,7 +2,7 @@
 -- b is any file, p the plate that it is read into, n the number of paths allowed, s the sheet that a file is read into; nothing else is supposed of them. `Four` shows such a file.
 --   t, ls               after at most n paths: the turns, and the lands in number order
 --   laid_ports_of, laid_channels (Counting), in_order (InOrder), Ended (Verdicts), PathLaid (PathMeaning), FragmentsMean (FragmentMeaning), Changed (Changes), SamePath, Exact and its rows (RefusalTable), AcceptedSheet: read them where they stand
--- The statements hold of any set of channels in play that is connected without a cut port among the ports it touches (Rounds.Layable, Reaches.Wide), under the names that are cited here: laying-ended, laying_stays, laying-path, cycle-lands, same_path, changed_laying, once_land, one_ring_laying, lands_of_kept, ports-counted, ..
+-- The statements hold of any set of channels in play that is connected without a cut port among the ports it touches (Rounds.Layable, Reaches.Wide), under the names that are cited here: laying_ended, laying_stays, laying_path, cycle_lands, same_path, changed_laying, once_land, one_ring_laying, lands_of_kept, ports_counted, ..
 -- The fakes of document 01, "How tight the statements are": each is named at the statement that excludes it.
 -- Assumes nothing.
 use mathlib.Core.Path.{◌≡◌, subst, sym, ap, ◌∙◌}

@@ -1,7 +1,7 @@
 -- The first cycle (document 01, "Laying"): where the channels in play touch three ports and none cuts these, a way leads back without its channel, and the state that it leaves has all that rounds keep. So has the state after any number of paths.
 --   blank, reversed, full      n missing turns; these with the reverse of a cycle linked; and with the cycle linked, too
 --   ok_c, a, b, q               of a first cycle with channel c: the darts in play without c's, the first end of c, its second end, the path back from b to a
--- sound_cycle: a cycle of darts that goes over no channel twice, and its reverse, are two lands. round_way: a way back without the channel. start-..: what holds of the cycle. kept_start: the first state.
+-- sound_cycle: a cycle of darts that goes over no channel twice, and its reverse, are two lands. round_way: a way back without the channel. start_..: what holds of the cycle. kept_start: the first state.
 -- kept_started, kept_laying: the state after at most n paths, begun with any channel in play, and with the lowest.
 -- Assumes nothing.
 use mathlib.Core.Path.{◌≡◌, refl, sym, ap, ◌∙◌, subst}

@@ -7,7 +7,7 @@
 --   Rooted np ps on lp k        it has a port: an unlaid end of channel k, its root
 --   ports_at, contacts_at         inside, and the contacts, with np ps on lp as they stand
 --   Alone .. k c                c is its only contact
--- laidPorts-..: what the laid ports are. within-..: the darts of a fragment. within_unlaid, inside_unlaid: nothing of a fragment is laid. contacts_from, contacts_adds: what a contact is. contacts_linked: a way from contact to contact. contacts_two: the first two contacts.
+-- laid_ports_..: what the laid ports are. within_..: the darts of a fragment. within_unlaid, inside_unlaid: nothing of a fragment is laid. contacts_from, contacts_adds: what a contact is. contacts_linked: a way from contact to contact. contacts_two: the first two contacts.
 -- Assumes nothing.
 use mathlib.Core.Path.{◌≡◌, refl, ◌∙◌, subst, sym, ap}
 use mathlib.Core.Logic.{⊎_elim, ◌⊎◌, inl, inr, ◌≢◌}

@@ -2,7 +2,7 @@
 --   Gathered t d ls     the lands ls are those of the darts below d: closed walks that share no dart, each listed from its smallest dart, in order of it
 --   Lands t ls          the lands ls are all lands of the turns t: each dart is in one of them, once
 -- any_has, has_any: the test whether a dart stands in lands. gather_old, gather_new, gather_over: a dart that is in a land, one that begins one, and the end. gathered_none, gathered_old, gathered_new: so with the facts.
--- gathered_room, gathered_few: they have at most as many darts as there are, and are at most half as many. gathered_lands_of: the lands of the turns. lands-..: what they are.
+-- gathered_room, gathered_few: they have at most as many darts as there are, and are at most half as many. gathered_lands_of: the lands of the turns. lands_..: what they are.
 -- Assumes nothing.
 use mathlib.Core.Path.{◌≡◌, refl, sym, ap, ◌∙◌, subst}
 use mathlib.Core.Logic.{◌≢◌, ⊎_elim}

@@ -7,7 +7,7 @@
 --   Walked t l          the walk from the first dart of l, which is its smallest, is l;  met d ls: a land of ls holds d
 --   IsListed l          l is a cycle listed from its smallest dart;  ListedAll s: every land of the state s is
 -- listed_headed: a cycle that is listed begins with its smallest dart. listed_laying: every land of a state that laying leaves is listed. all_in_order, count_in_order, length_in_order, sound_in_order: the lands in order are the same lands; ordered_in_order: they are in order.
--- gathered, lands_of_kept: sound lands whose first darts do not fall are the lands of the turns. rising_sound: then they rise. heads_at: of two, the one before begins with the smaller dart. ..-laidOut: so it is with every plate that is read,
+-- gathered, lands_of_kept: sound lands whose first darts do not fall are the lands of the turns. rising_sound: then they rise. heads_at: of two, the one before begins with the smaller dart. ..-laid_out: so it is with every plate that is read,
 -- laid with at most n paths: each land begins with its smallest dart, and the lands of the turns are the lands kept, in order of first dart.
 -- Assumes nothing.
 use mathlib.Core.Path.{◌≡◌, refl, sym, ◌∙◌, ap, subst}

@@ -1,7 +1,7 @@
 -- Laws of the list definitions (rules, "Lists"): what a test over a list says of the elements, and what a search finds.
 --   All P l         P holds of every element of l
 -- any_T, T_any, not_any, all_T, not_all, keep_T, T_keep: a test over a list of numbers against the numbers in it. count_from, from_lt, from_once: i, i + 1, .. are what they say.
--- all-.., keep_all, keep_none: what holds of every element. two: of two numbers in a list, to its first two. seek_first, seek_found, seek_finds: a search gives the lowest number that passes. has_count, count_has, place_count, place_of: what stands in a list, and where. part_length, take_replicate, drop_head, first_two: parts of a list. replicate_at: one thing again and again.
+-- all_.., keep_all, keep_none: what holds of every element. two: of two numbers in a list, to its first two. seek_first, seek_found, seek_finds: a search gives the lowest number that passes. has_count, count_has, place_count, place_of: what stands in a list, and where. part_length, take_replicate, drop_head, first_two: parts of a list. replicate_at: one thing again and again.
 -- Assumes nothing.
 use mathlib.Core.Path.{subst, sym, ap, ◌≡◌, refl, ◌∙◌}
 use mathlib.Core.Logic.{⊎_elim, ◌≢◌}

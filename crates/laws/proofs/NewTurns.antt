@@ -3,7 +3,7 @@
 --   path, A, B          of one path more: its darts, the stretch from x to y, the stretch from y to x
 --   after_x, after_y      the dart at x after which the path's first dart comes, and the dart at y after which the reversed path's first dart comes
 --   g                   the reversed path's first dart
--- land_unlisted: a land is one from whichever dart it is read. back_last, back_first, trail_last: the ends of a path. turn-..: the turns at x and y. turns_stay: those that do not change. turns_where: a turn changes at a port of the path only. turns_follow: what comes after an older dart. only_after_x, only_after_y: a new dart at x or y comes after one older dart alone.
+-- land_unlisted: a land is one from whichever dart it is read. back_last, back_first, trail_last: the ends of a path. turn_..: the turns at x and y. turns_stay: those that do not change. turns_where: a turn changes at a port of the path only. turns_follow: what comes after an older dart. only_after_x, only_after_y: a new dart at x or y comes after one older dart alone.
 -- Assumes nothing.
 use mathlib.Core.Path.{◌≡◌, refl, sym, ap, ◌∙◌, subst}
 use mathlib.Core.Logic.{◌≢◌, inl, inr, ⊎_elim}

@@ -7,7 +7,7 @@
 --   Ladder ps ok free y s ss     s grew from the first of ss, that from the second, and so on, and the last is y alone
 --   New p ss                     p is not in the first of ss
 --   Found ps ok free n y x ss    ss is the ladder below a set of n ports that holds x first
--- nearest_good, nearest_best: the dart that is taken leads into the set, and no other leads to a smaller port. descend-..: what holds of the darts taken. layers_good: the sets are a ladder. path_good is the sum of it.
+-- nearest_good, nearest_best: the dart that is taken leads into the set, and no other leads to a smaller port. descend_..: what holds of the darts taken. layers_good: the sets are a ladder. path_good is the sum of it.
 -- Assumes nothing.
 use mathlib.Core.Path.{◌≡◌, subst, sym, refl, ap, ◌∙◌}
 use mathlib.Core.Logic.{⊎_elim, ◌⊎◌, inr, inl}

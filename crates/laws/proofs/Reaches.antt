@@ -8,7 +8,7 @@
 --   Touched ps on p         a channel in play touches port p
 --   Firm ps on              no port cuts what the channels in play touch: between any two others of these ports a way leads that avoids it, by channels in play
 --   Wide ps on              the channels in play touch three ports: one other than any two
--- mark-.., grow-..: what one step adds. way_append, way_back, linked_join: ways are joined and walked backwards. reached_iff: the ports reached from y are those from which a way leads to y. uncut_of: no port cuts where without each every port is linked to one. touched_in: a port that is touched is a port. firm_of, wide_of: where no port cuts, none cuts what is touched, and three are touched.
+-- mark_.., grow_..: what one step adds. way_append, way_back, linked_join: ways are joined and walked backwards. reached_iff: the ports reached from y are those from which a way leads to y. uncut_of: no port cuts where without each every port is linked to one. touched_in: a port that is touched is a port. firm_of, wide_of: where no port cuts, none cuts what is touched, and three are touched.
 -- Assumes nothing.
 use mathlib.Core.Path.{◌≡◌, refl, subst, sym, ◌∙◌}
 use mathlib.Core.Logic.{◌⊎◌, ⊎_elim, inr, inl, ◌↔◌, ◌≢◌}

@@ -5,7 +5,7 @@
 --   fr, ok, cs          of a choice: its fragment, the fragment's darts, its contacts
 --   i, x, y, l, r, a, b, q      of the path that is laid: the land's number, the two smallest contacts, the land, the land from x on, A, B, the path
 --   P                   the laid ports, listed
--- kept-..: what holds of a state that is kept. lay-..: what holds of the path and the land that it splits. kept_lay: a path that is laid for a sensible choice with an admissible land keeps all that. kept_rounds: so do any number of rounds.
+-- kept_..: what holds of a state that is kept. lay_..: what holds of the path and the land that it splits. kept_lay: a path that is laid for a sensible choice with an admissible land keeps all that. kept_rounds: so do any number of rounds.
 -- Assumes nothing.
 use mathlib.Core.Path.{◌≡◌, subst, sym, ◌∙◌, ap, refl}
 use mathlib.Core.Logic.{◌≢◌, ⊎_elim}

@@ -1,8 +1,8 @@
 -- Runs of darts (document 01, "Terms"): a land is a run that closes.
 --   Run t d l e     d, then the darts of l, then e, each the next of the one before
 --   Land t l        l is a run that comes back to its first dart
--- reverse-.., channel-..: the two darts of a channel are each other's reverses. run_append, run_cut: a run is cut and joined anywhere. run_keep, run_end: turns that a run does not use do not matter.
--- land_turn, listed_keeps, land_listed: a land is one from whichever of its darts it is listed. least-.., turn_to_first: the smallest dart of a list, and a list turned to begin with a dart.
+-- reverse_.., channel_..: the two darts of a channel are each other's reverses. run_append, run_cut: a run is cut and joined anywhere. run_keep, run_end: turns that a run does not use do not matter.
+-- land_turn, listed_keeps, land_listed: a land is one from whichever of its darts it is listed. least_.., turn_to_first: the smallest dart of a list, and a list turned to begin with a dart.
 -- Assumes nothing.
 use mathlib.Core.Path.{◌≡◌, sym, ◌∙◌, ap, subst, refl}
 use mathlib.Core.Logic.{◌≢◌, ◌⊎◌, ⊎_elim, inl, inr}

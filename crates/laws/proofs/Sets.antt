@@ -1,7 +1,7 @@
 -- Sets of ports as lists of flags: membership, size, and a set that grows until nothing is added.
 --   size s          how many ports s holds
 --   Sub s r         every port of s is one of r
--- at-.., only_is: what `set` and `only` hold. sub_size: a set within another is that one, or smaller. iter_closed: a step that only adds, taken as often as there are ports, adds no more.
+-- at_.., only_is: what `set` and `only` hold. sub_size: a set within another is that one, or smaller. iter_closed: a step that only adds, taken as often as there are ports, adds no more.
 -- Assumes nothing.
 use mathlib.Core.Path.{◌≡◌, subst, ◌∙◌, refl, sym, ap}
 use mathlib.Core.Logic.{◌⊎◌, inl, inr, ⊎_elim}

@@ -34,7 +34,7 @@ lt_or_eq a b h = go (dec_lt a b)
 pub length_descend : (ps : List ℕ) (ok : ℕ → Bool) (p : ℕ) (ss : List (List Bool)) → length (descend ps ok p ss) ≡ length ss
 unfolding descend
 length_descend ps ok p [] = refl
-length_descend ps ok p (s ∷ ss) = ap suc (length_descend ps ok _ ss)
+length_descend ps ok p (s ∷ ss) = ap suc (length_descend ps ok (enters ps (nearest ps ok p s (from 0 (length ps)) missing)) ss)
 
 module _ (np : ℕ) (ps : List ℕ) (ok free : ℕ → Bool) (hd : Darts (from 0 (length ps))) (hw : Whole ps ok)
     (ports : (d : ℕ) → T (ok d) → leaves ps d < np) where

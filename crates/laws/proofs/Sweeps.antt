@@ -5,10 +5,10 @@
 --   laid_at ps t p       the laid darts of port p, rising
 --   woven t u l         l, with the turn under u put behind each dart where t has not laid that turn
 --   Follows t u w       after dart w comes under u what comes under t, or else a dart that t has not laid, and after that what comes under t
--- keep_every, cut_at, once_at, map_one: lists of numbers by their counts. laidAt-..: which darts are the laid ones of a port.
--- sweep-.., circle-..: sweeps are joined and cut, and a circle is one from whichever dart it is listed. sweep_ring, sweep_onward, sweep_reach: the definitions ring and onward along a sweep. sweep_inj: in a circle no two darts have the same turn.
+-- keep_every, cut_at, once_at, map_one: lists of numbers by their counts. laid_at_..: which darts are the laid ones of a port.
+-- sweep_.., circle_..: sweeps are joined and cut, and a circle is one from whichever dart it is listed. sweep_ring, sweep_onward, sweep_reach: the definitions ring and onward along a sweep. sweep_inj: in a circle no two darts have the same turn.
 -- ring_from, ring_length, one_ring_lem: a ring at a port is found from each of its darts, has as many darts as the port has laid ones, and passes the test of refusal 14. ring_two: a ring of two darts.
--- sweep_woven, keep_woven, count-woven-..: new darts are put into a ring, and without them it is as it was.
+-- sweep_woven, keep_woven, count_woven_..: new darts are put into a ring, and without them it is as it was.
 -- Assumes nothing.
 use mathlib.Core.Path.{◌≡◌, refl, sym, ap, ◌∙◌, subst}
 use mathlib.Core.Logic.{◌≢◌, ◌⊎◌, inl, inr, ⊎_elim}

@@ -10,7 +10,7 @@ use Prim.Native.String.{String}
 use Rattle.rules.specs.Lists.{from, concat, text}
 use Rattle.rules.specs.Terms.{leaves, enters, darts_at, ring}
 use Rattle.rules.specs.Files.{plate_file}
-use Rattle.rules.specs.Refusals.{Answer, given, refused, Plate, lent_test, read_plate, ◌>>=◌, ◌>>◌}
+use Rattle.rules.specs.Refusals.{Answer, given, refused, Plate, lent_test, read_plate, ◌>>◌}
 use Rattle.rules.specs.Laying.{Path, Outcome, FLAT, STUCK, PARTIAL, without_cap, whole_plate, laid_out, first_cycle}
 
 -- ---- lines

@@ -1,4 +1,6 @@
 // The lands of turns, walked.
+#![tactic(auto)]
+
 ghost use Rattle.std.specs.Prelude.{◌≡◌, false, ◌++◌, map, ℕ, ◌+◌, ◌*◌, ◌/◌, ◌<◌, ◌≤◌, length, take, drop};
 ghost use Rattle.rules.specs.Lists.{at, concat};
 ghost use Rattle.rules.specs.Terms.{missing, lands_of};

@@ -1,4 +1,6 @@
 // The room that a laying works in, made for any plate within the limits.
+#![tactic(auto)]
+
 ghost use Rattle.std.specs.Prelude.{◌≡◌, ◌+◌, ◌*◌, ◌≤◌, length};
 ghost use Rattle.rules.specs.Files.{limits1};
 ghost use Rattle.step.specs.Rooms.{Plan};

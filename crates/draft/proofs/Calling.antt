@@ -4,9 +4,9 @@
 -- unstuck_of: an answer of another kind is not STUCK. stuck_small: the name of a fragment is a small number.
 -- Assumes nothing.
 use mathlib.Core.Path.{◌≡◌, refl, sym, ap, ◌∙◌, subst}
-use mathlib.Core.Logic.{◌≢◌, ⊎_elim}
+use mathlib.Core.Logic.{◌≢◌}
 use mathlib.Core.Bool.{true}
-use mathlib.Core.List.{List, [], ◌∷◌, ◌++◌, append-nil}
+use mathlib.Core.List.{List, [], ◌++◌, append-nil}
 use Prim.Native.Nat.{ℕ, ◌+◌, ◌-◌, ◌*◌, ◌/◌, ◌≤◌, ◌<◌}
 use native.Mathlib.Omega.{arith}
 use borrow.Author.Tests.{lt-ltb}
@@ -28,9 +28,6 @@ use Rattle.plate.specs.declared.Reading.{Reading}
 use Rattle.plate.specs.declared.Reading.TheVariants.{Refused as Unread}
 use Rattle.plate.specs.Answers.{reading_of, refusal_in}
 use Rattle.plate.proofs.Laws.{plate_in, Known, unread, pairs_ends}
-use types.Run.{OneOf}
-use denote.Enum.Declared.{tag_of}
-use Rattle.laid.specs.contracts.Laid.{the_type}
 use Rattle.laid.specs.declared.Laid.{Laid}
 use Rattle.laid.specs.declared.Laid.TheVariants.{Flat, Stuck, Partial, Refused as Unlaid}
 use Rattle.laid.specs.Answers.{laid_answer}
@@ -79,9 +76,9 @@ Unstuck (Stuck q n) = ⊥
 Unstuck (Partial q) = Unit {0}
 Unstuck (Unlaid x) = Unit {0}
 
-pub unstuck_of : (r : Laid) → OneOf (0 ∷ 2 ∷ 3 ∷ []) (tag_of the_type r) → Unstuck r
+pub unstuck_of : (r : Laid) → ((paths name : ℕ) → r ≡ Stuck paths name → ⊥) → Unstuck r
 unstuck_of (Flat q) h = tt
-unstuck_of (Stuck q n) h = ⊎_elim (λ e. absurd (omega (arith, e))) (λ g. ⊎_elim (λ e. absurd (omega (arith, e))) (λ e. absurd (omega (arith, e))) g) h
+unstuck_of (Stuck q n) h = absurd (h q n refl)
 unstuck_of (Partial q) h = tt
 unstuck_of (Unlaid x) h = tt
 

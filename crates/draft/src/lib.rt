@@ -1,4 +1,6 @@
 // What is written from a laid plate: the turn sheet.
+#![tactic(auto)]
+
 ghost use Rattle.std.specs.Prelude.{◌≡◌, ◌++◌, map, ◌+◌, ◌*◌, ◌/◌, ◌%◌, ◌<◌, ◌≤◌, length, drop};
 ghost use Rattle.std.proofs.lemmas.List.Edits.{sets};
 ghost use Rattle.rules.specs.Lists.{concat, bytes};
@@ -16,7 +18,7 @@ use numbers::wide;
 use plate::{Plate, Reading, Refusal};
 
 // What writing a sheet answers: it is written, or refused.
-#[derive(Drop)]
+#[derive(Clone, Copy)]
 pub enum Written {
     Done,
     Refused(Refusal),

@@ -3,7 +3,7 @@
 --   lp               the laid ports
 --   choice f         the choice of the fragment f
 --   total            all fragments, in order of name
--- fragments_settled, fragments_new, fragments_over, fragments_rest: from channel to channel. few-..: few tells 0 and 1 from more. held_new: one choice more. keeps-.., takes-..: what is held, by the numbers of lands. told_as, flat_told, stuck_told, ready_told: the three answers.
+-- fragments_settled, fragments_new, fragments_over, fragments_rest: from channel to channel. few_..: few tells 0 and 1 from more. held_new: one choice more. keeps_.., takes_..: what is held, by the numbers of lands. told_as, flat_told, stuck_told, ready_told: the three answers.
 -- Assumes nothing.
 use mathlib.Core.Path.{◌≡◌, refl, sym, ap, ◌∙◌}
 use mathlib.Core.Logic.{◌≢◌, ⊎_elim}

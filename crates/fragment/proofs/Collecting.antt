@@ -2,7 +2,7 @@
 --   Touched ends play lp p s₀ s d          the darts of port p from d on are left
 --   Felt ends play lp ps s₀ s i            the ports of ps from place i on are left
 --   Collected f v size out n p             the first n of `out`, which has `size` places, are the ports below p that pass the test f; v ports in all
--- touch_out, touch_unlaid, touch_laid: one dart. touched-.., felt-.., collected-..: the three loops. Each of the form "what is left, from here, gives what the whole gives from the start".
+-- touch_out, touch_unlaid, touch_laid: one dart. touched_.., felt_.., collected_..: the three loops. Each of the form "what is left, from here, gives what the whole gives from the start".
 -- Assumes nothing.
 use mathlib.Core.Path.{◌≡◌, refl, sym, ap, ◌∙◌}
 use mathlib.Core.Logic.{◌⊎◌, inl, inr}

@@ -2,7 +2,7 @@
 --   Searched v ends play t lp marks k j        the channels from k up to j name no fragment
 --   Judging v ends play t lp ls held marks k   the fragments found, with those that the channels from k on name, are all fragments; each of them has an admissible land, their ports are marked, and what would be chosen of them is held; k names the next
 --   f, c                                       the fragment that channel k names, and its choice
--- searched-..: the search. judging_start, judging_shut, judging_names, judging_up, judging_step: the passage. judging_stuck, judging_ready: what it comes to.
+-- searched_..: the search. judging_start, judging_shut, judging_names, judging_up, judging_step: the passage. judging_stuck, judging_ready: what it comes to.
 -- Assumes nothing.
 use mathlib.Core.Path.{◌≡◌, refl, sym, ap, ◌∙◌, subst}
 use mathlib.Core.Logic.{◌≢◌}

@@ -1,6 +1,6 @@
 -- Loops over numbers in a row: i, i + 1, .. up to n are i and those from i + 1 on; and a slice of flags that is written place by place.
 --   Written f n s i      the flags of s before place i are what f says, s having n places
--- from_cut, from_over, from_whole: one number at a time. written-..: the invariant of each loop that writes flags. map_at: marks that are copied so.
+-- from_cut, from_over, from_whole: one number at a time. written_..: the invariant of each loop that writes flags. map_at: marks that are copied so.
 -- Assumes nothing.
 use mathlib.Core.Path.{◌≡◌, sym, ap, ◌∙◌}
 use mathlib.Core.Logic.{◌≢◌, ⊎_elim}

@@ -1,5 +1,5 @@
 -- The fragment of channel k spreads from its seed port: its ports are those that channels in play link to that port through unlaid ports, and there are none where both ends of k are laid.
--- same_set: two sets that hold of the same. seed_only: the seed is the seed port alone. seed_unlaid: that port is unlaid. seed_first, seed_second, seed_neither, seed_cases: by the ends of channel k; read-..: the same, as the code reads them.
+-- same_set: two sets that hold of the same. seed_only: the seed is the seed port alone. seed_unlaid: that port is unlaid. seed_first, seed_second, seed_neither, seed_cases: by the ends of channel k; read_..: the same, as the code reads them.
 -- inside_iff, inside_none: what the fragment's ports are. inside_step, inside_back: they are closed. same_reach: ports that are marked already do not change what the spread reaches.
 -- Assumes nothing.
 use mathlib.Core.Path.{◌≡◌, refl, sym, ◌∙◌, subst}

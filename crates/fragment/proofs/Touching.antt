@@ -1,7 +1,7 @@
 -- The contacts of a fragment: the laid ports that darts in play enter from its ports; or, where it is one channel between two laid ports, the two ends.
 --   Touches ends play lp z d          dart d is in play and enters the laid port z
 --   test v ends play lp sized k p     port p is a contact of the fragment of channel k
--- darts_leave, leaving_darts: the darts of a port. touch-.., touchAll-.., touchFrom-..: what is touched. rooted_contacts: the contacts, read off what is touched. keep-..: a list that keeps two numbers. single_rising, single_falling: the contacts of a single channel.
+-- darts_leave, leaving_darts: the darts of a port. touch_.., touch_all_.., touch_from_..: what is touched. rooted_contacts: the contacts, read off what is touched. keep_..: a list that keeps two numbers. single_rising, single_falling: the contacts of a single channel.
 -- Assumes nothing.
 use mathlib.Core.Path.{◌≡◌, refl, sym, ap, ◌∙◌, subst, fun_ext}
 use mathlib.Core.Logic.{◌≢◌, ◌⊎◌, inl, inr, ⊎_elim}

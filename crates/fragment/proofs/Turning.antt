@@ -1,7 +1,7 @@
 -- What the turns say of darts, ports and channels: a read of a turn, the laid ports, and whether all is laid.
 --   Covering ends t v r d       what is left of the darts from d on makes of r all laid ports
 --   Passing f n k               the numbers before k all pass the test f
--- same_default: a read inside a list. laid_read: a turn that is not the mark. over_out, over_in: one channel. covering-.., passing-..: the loops of `laid_ports` and `all_laid`.
+-- same_default: a read inside a list. laid_read: a turn that is not the mark. over_out, over_in: one channel. covering_.., passing_..: the loops of `laid_ports` and `all_laid`.
 -- Assumes nothing.
 use mathlib.Core.Path.{◌≡◌, refl, sym, ap, ◌∙◌}
 use mathlib.Core.Logic.{◌⊎◌, inl, inr}

@@ -1,4 +1,6 @@
 // The fragments of a laying, and what the next round says.
+#![tactic(auto)]
+
 ghost use Rattle.std.specs.Prelude.{◌≡◌, ◌⊎◌, true, false, not, ◌&&◌, List, map, ℕ, ◌+◌, ◌*◌, ◌<◌, ◌≤◌, length, get_or, take, replicate};
 ghost use Rattle.rules.specs.Lists.{from, keep, at};
 ghost use Rattle.rules.specs.Terms.{laid, leaves, enters, darts_at};
@@ -14,7 +16,7 @@ use numbers::{mark_all, narrow, reverse, wide};
 use plate::Plate;
 
 // What the next round says: all channels in play are laid; the fragment of that name has no admissible land; or a path is to be laid.
-#[derive(Drop)]
+#[derive(Clone, Copy)]
 pub enum Verdict {
     Flat,
     Stuck(usize),
@@ -22,28 +24,28 @@ pub enum Verdict {
 }
 
 // The fragment for which a path is laid, and the land that the path divides.
-#[derive(Drop)]
+#[derive(Clone, Copy)]
 pub struct Choice {
     pub name: usize,
     pub land: usize,
 }
 
 // The two smallest contacts of a fragment.
-#[derive(Drop)]
+#[derive(Clone, Copy)]
 pub struct Two {
     pub x: usize,
     pub y: usize,
 }
 
 // How many lands are admissible for a fragment, 2 for more, and the lowest of them.
-#[derive(Drop)]
+#[derive(Clone, Copy)]
 struct Weight {
     fits: usize,
     land: usize,
 }
 
 // The fragment that is held as the choice so far: how many lands are admissible for it, 2 for more, its name, and the lowest of them. It has no land where there is no fragment so far.
-#[derive(Drop)]
+#[derive(Clone, Copy)]
 struct Held {
     fits: usize,
     name: usize,

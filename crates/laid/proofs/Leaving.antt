@@ -1,6 +1,6 @@
 -- What laying the pairs of a file that was read asks, and what it leaves (rules, `told`, `turns_left`, `lands_left`, `lengths_left`).
 --   laid_out_of p n         the plate p, laid with n paths at most
--- ports_fewer: no plate has more ports than channels. flat_lands: the lands of a plate that is FLAT. fits: the plate can be laid. laid-..: what is then left.
+-- ports_fewer: no plate has more ports than channels. flat_lands: the lands of a plate that is FLAT. fits: the plate can be laid. laid_..: what is then left.
 -- Assumes nothing.
 use mathlib.Core.Path.{◌≡◌, refl, sym, ap, ◌∙◌, subst}
 use mathlib.Core.Bool.{Bool, true}

@@ -1,4 +1,6 @@
 // A plate of pairs laid into slices that are just as long as is needed: the turns, the lands in number order and their lengths.
+#![tactic(auto)]
+
 ghost use Rattle.std.specs.Prelude.{◌≡◌, true, ◌++◌, ◌+◌, ◌-◌, ◌*◌, ◌/◌, ◌≤◌, length, take, drop, replicate};
 ghost use Rattle.rules.specs.Lists.{concat};
 ghost use Rattle.rules.specs.Terms.{missing};
@@ -13,7 +15,7 @@ use plate::{Plate, Refusal};
 use rounds::{End, Word};
 
 // What laying answers: the word with the number of paths and, where it is STUCK, the name; or a refusal.
-#[derive(Drop)]
+#[derive(Clone, Copy)]
 pub enum Laid {
     Flat(usize),
     Stuck(usize, usize),

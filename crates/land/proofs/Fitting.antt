@@ -1,6 +1,6 @@
 -- The search for the first land that visits every contact, turn by turn of its three loops; each turn says that what is left decides what the whole decides.
 --   Passed ends cs ls i k    of the lands ls none from number i up to k visits every port of cs
--- visit-..: the darts of one land, none so far leaving the port. all-..: the contacts, all so far visited. pass-..: the lands.
+-- visit_..: the darts of one land, none so far leaving the port. all_..: the contacts, all so far visited. pass_..: the lands.
 -- Assumes nothing.
 use mathlib.Core.Path.{◌≡◌, refl, sym, ap, ◌∙◌}
 use mathlib.Core.Logic.{◌≢◌}

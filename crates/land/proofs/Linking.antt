@@ -1,6 +1,6 @@
 -- Linking, dart by dart, forwards and backwards along a path.
 --   Linked t₀ d q e t x r     the turns t lead on from x through r, which is left of the path q from d to e
--- link-.., back-..: start, turn and end of the loops of `link` and `link_back`: what is left to link gives what the whole gives. back_snoc: a path walked backwards begins with the reverse of its last dart.
+-- link_.., back_..: start, turn and end of the loops of `link` and `link_back`: what is left to link gives what the whole gives. back_snoc: a path walked backwards begins with the reverse of its last dart.
 -- Assumes nothing.
 use mathlib.Core.Path.{◌≡◌, refl, sym, ap, ◌∙◌, subst}
 use mathlib.Core.List.{List, [], ◌∷◌, ◌++◌}

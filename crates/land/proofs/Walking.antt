@@ -1,7 +1,7 @@
 -- One step of a walk along the turns: the darts that are left are the dart at hand and those after it.
 --   Left t n k e              k of n darts are walked and e is the next: those that are left can be walked
 --   Seeking ends p d l r a k  k darts of l are passed, a being the last (d where none is), none leaves p, and r is left, in which some dart does
--- from_step, from_end, left-..: the walk. by-.., low-.., seek-..: a turn of the loops of `along`, `smallest` and `seek_port`, each of the form "what is left says what the whole says".
+-- from_step, from_end, left_..: the walk. by_.., low_.., seek_..: a turn of the loops of `along`, `smallest` and `seek_port`, each of the form "what is left says what the whole says".
 -- Assumes nothing.
 use mathlib.Core.Path.{◌≡◌, refl, sym, ap, ◌∙◌, subst}
 use mathlib.Core.Logic.{◌≢◌}

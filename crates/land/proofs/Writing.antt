@@ -1,7 +1,7 @@
 -- What a lent buffer holds while lands are written into it; o₀ is the buffer before, o now.
 --   Writing t d n o₀ at o e k      k of the n darts from d on stand in it from index `at` on, and e is the next
 --   Joining t fs ns n o₀ o at i    the darts of the first i of n lands stand in it up to index `at`
--- write-.., join-..: start, turn and end of the loops of `write_land` and `write_lands`; write_size, join_size: its length does not change.
+-- write_.., join_..: start, turn and end of the loops of `write_land` and `write_lands`; write_size, join_size: its length does not change.
 -- Assumes nothing.
 use mathlib.Core.Path.{◌≡◌, refl, sym, ap, ◌∙◌, subst}
 use mathlib.Core.List.{List, [], ◌++◌}

@@ -1,4 +1,6 @@
 // The lands of a laying, walked along the turns: a land is kept as its first dart and its length.
+#![tactic(auto)]
+
 ghost use Rattle.std.specs.Prelude.{◌≡◌, cond, [], ◌∷◌, ◌++◌, ◌+◌, ◌<◌, ◌≤◌, length, take, drop, set, T, ltb};
 ghost use Rattle.rules.specs.Lists.{concat};
 ghost use Rattle.rules.specs.Terms.{reverse, missing, next, least, visits};
@@ -8,7 +10,7 @@ ghost use Rattle.land.specs.Walks.{land_from, next_by, lands, first_fit, Darts, 
 use numbers::{narrow, reverse, wide};
 
 // What a search for a port tells: the dart that leaves it, the dart before, and how many stand before.
-#[derive(Drop)]
+#[derive(Clone, Copy)]
 pub struct Seen {
     pub dart: usize,
     pub last: usize,

@@ -1,6 +1,6 @@
 -- The laying call (rules, `lay_plate`) by what reading gave: a refusal, slices too short, or a plate that is laid.
 --   short_of p t l s       one of t turns, l land darts and s lengths is fewer than the plate p needs
--- call_refused: a file that is refused. call_short: slices too short. call_laid: a plate that is laid. short-..: the test of the lent slices, by the test that decides.
+-- call_refused: a file that is refused. call_short: slices too short. call_laid: a plate that is laid. short_..: the test of the lent slices, by the test that decides.
 -- Assumes nothing.
 use mathlib.Core.Path.{◌≡◌, refl, sym, ap, ◌∙◌}
 use mathlib.Core.Bool.{Bool, true, false, cond, ◌||◌}

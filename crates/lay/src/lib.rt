@@ -1,4 +1,6 @@
 // The laying call: a plate file is read, and laid into the slices that the caller lends.
+#![tactic(auto)]
+
 ghost use Rattle.std.specs.Prelude.{◌≡◌, false, ◌||◌, ltb, length};
 ghost use Rattle.rules.specs.Laying.{lay_plate, told, turns_left, lands_left, lengths_left};
 ghost use Rattle.laid.specs.Answers.{laid_answer};

@@ -1,8 +1,8 @@
 -- Lines that a loop writes: of the lands, of the ports, of the paths that a story tells.
 --   Degree ends p n d       n darts of port p are counted, and those left are the ones from d on
 --   Telling m n s k i       i of n paths are passed, and the story s tells the others from index k on, with darts below m
--- land_next, port_next, path_next: the next line apart. land_over, port_over, path_over_lem: no line is left. port_first, path_first: all of them are left. degree-..: start, turn and end of the loop of `degree`. first_ring, ring_as: a port's ring begins at its first dart.
--- telling-..: what the loop of `path_lines` reads.
+-- land_next, port_next, path_next: the next line apart. land_over, port_over, path_over_lem: no line is left. port_first, path_first: all of them are left. degree_..: start, turn and end of the loop of `degree`. first_ring, ring_as: a port's ring begins at its first dart.
+-- telling_..: what the loop of `path_lines` reads.
 -- Assumes nothing.
 use mathlib.Core.Path.{◌≡◌, refl, sym, ap, ◌∙◌, subst}
 use mathlib.Core.Logic.{⊎_elim}

@@ -5,13 +5,10 @@
 -- told_from, told_cycle, told_paths: what reading a story asks, n being the number of the first cycle's darts.
 -- Assumes nothing.
 use mathlib.Core.Path.{◌≡◌, refl, sym, ap, ◌∙◌, subst}
-use mathlib.Core.Logic.{◌⊎◌, ⊎_elim}
-use mathlib.Core.List.{List, [], ◌∷◌, ◌++◌, map, append_assoc, append-nil}
+use mathlib.Core.List.{List, [], ◌++◌, map, append_assoc, append-nil}
 use Prim.Native.Nat.{ℕ, zero, suc, ◌+◌, ◌-◌, ◌≤◌}
 use native.Mathlib.Omega.{arith}
 use lib.ListN.{length, get_or, take, drop}
-use types.Run.{OneOf}
-use denote.Enum.Declared.{tag_of}
 use Rattle.rules.specs.Lists.{from, concat}
 use Rattle.rules.specs.Terms.{leaves}
 use Rattle.rules.specs.Refusals.{Plate}
@@ -22,7 +19,6 @@ use Rattle.print.proofs.Putting.{Cut}
 use Rattle.rounds.specs.declared.Word.{Word}
 use Rattle.rounds.specs.declared.Word.TheVariants.{Flat, Stuck, Partial}
 use Rattle.rounds.specs.Words.{word_in, name_in}
-use Rattle.rounds.specs.contracts.Word.{the_type}
 use Rattle.lines.specs.Story.{cycle_of, paths_in, paths_of, Entries, Told}
 use Rattle.lines.specs.Lines.{line_of_word, plate_of, path_lines, port_lines, flat_lines, outcome_of}
 
@@ -33,12 +29,9 @@ Other Flat = ⊥
 Other (Stuck k) = Unit {0}
 Other Partial = Unit {0}
 
-zero_key : (◌≡◌ {A = ℕ} 0 1) ⊎ (◌≡◌ {A = ℕ} 0 2) → ⊥
-zero_key h = ⊎_elim (λ e. absurd (omega (arith, e))) (λ e. absurd (omega (arith, e))) h
-
 -- a word that is one of the last two
-pub other_of : (w : Word) → OneOf (1 ∷ 2 ∷ []) (tag_of the_type w) → Other w
-other_of Flat h = zero_key h
+pub other_of : (w : Word) → (w ≡ Flat → ⊥) → Other w
+other_of Flat h = absurd (h refl)
 other_of (Stuck k) h = tt
 other_of Partial h = tt
 

@@ -1,4 +1,6 @@
 // The lines of a listing, and the listing whole, written into a lent buffer.
+#![tactic(auto)]
+
 ghost use Rattle.std.specs.Prelude.{◌≡◌, [], ◌∷◌, map, ◌+◌, ◌<◌, ◌≤◌, length, get_or, drop};
 ghost use Rattle.rules.specs.Terms.{leaves, enters, darts_at, ring};
 ghost use Rattle.rules.specs.Listing.{line, head_line, land_lines, laid_lines};

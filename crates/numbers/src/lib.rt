@@ -1,4 +1,6 @@
 // Numbers of 8, 16 and 32 bits as indices and back, the reverse of a dart, and slices that get one number or one mark.
+#![tactic(auto)]
+
 ghost use Rattle.std.specs.Prelude.{◌≡◌, ◌++◌, ◌+◌, ◌-◌, ◌^◌, ◌<◌, ◌≤◌, length, take, drop, replicate};
 ghost use Rattle.rules.specs.Terms.{reverse};
 

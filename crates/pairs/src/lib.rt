@@ -1,4 +1,6 @@
 // Tests 7 to 9: the pairs, as the ports that the darts leave, one channel after another.
+#![tactic(auto)]
+
 ghost use Rattle.std.specs.Prelude.{◌≡◌, ◌&&◌, ◌+◌, ◌*◌, ◌/◌, ◌<◌, eqb, length};
 ghost use Rattle.rules.specs.Lists.{seek};
 ghost use Rattle.rules.specs.Terms.{leaves, enters};

@@ -1,5 +1,7 @@
 // Tests 10 and 11, over the channels in play: the lowest port apart from port 0, and the lowest port that cuts, by floods.
 // `first` and `more` have the neighbours of each port; `marks` and `queue` are room to work in.
+#![tactic(auto)]
+
 ghost use Rattle.std.specs.Prelude.{◌≡◌, false, cond, ◌<◌, eqb, length};
 ghost use Rattle.rules.specs.Lists.{seek};
 ghost use Rattle.rules.specs.Refusals.{apart, cuts};

@@ -1,6 +1,6 @@
 -- What callers use of the reader's definitions (rules, "Files" and "Refusals") without unfolding them.
 --   Known b p                   the code's plate p was read from the file b: its counts, its length, and every test passed
--- number-.., bytes_numbers_lem: one-byte numbers are a part of the file. length_plate, length_sheet: the lengths 8 + 2E and 8 + 6E. sheet-..: a sheet's V, E and ports stand where a plate file's do.
+-- number_.., bytes_numbers_lem: one-byte numbers are a part of the file. length_plate, length_sheet: the lengths 8 + 2E and 8 + 6E. sheet_..: a sheet's V, E and ports stand where a plate file's do.
 -- ends_part: the ports of the pairs are a part of the file. plate_size, sheet_size: the length of a file that passed tests 1 to 9 (laws, `Tested`).
 -- test_passed, test_refused: a test of the code that was passed or refused. known, read_is, unread: a reading that gave a plate or a refusal. part_none, part_rest, part_front: the part of a file that the reader hands back as its pairs. part_is, pairs_ends, pairs_length: of a file that was read they are the ports of the pairs.
 -- length_copied, copied_front: a copy is as long as what it was copied into, and begins with what was copied. refusal_unique, test_unique, reading_unique: what an answer stands for determines it.

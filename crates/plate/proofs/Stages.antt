@@ -1,7 +1,7 @@
 -- Tests one after the other, in the code and in the rules (rules, "Refusals").
 --   bad_ports f b, bad_channels f b      V, E of a file outside the limits
--- refuse_at_yes_lem, refuse_at_no_lem: what a test over channels gives. mark-.., count-.., pair-.., piece-..: what the stages give, by the tests of each that were passed.
--- kind-..: what the two formats share. other_mark_lem: a mark, byte by byte.
+-- refuse_at_yes_lem, refuse_at_no_lem: what a test over channels gives. mark_.., count_.., pair_.., piece_..: what the stages give, by the tests of each that were passed.
+-- kind_..: what the two formats share. other_mark_lem: a mark, byte by byte.
 -- Assumes nothing.
 use mathlib.Core.Path.{◌≡◌, refl, sym, ap, subst, ◌∙◌}
 use mathlib.Core.Bool.{Bool, true, false, not, ◌&&◌}

@@ -1,4 +1,6 @@
 // The plate: its constants, the reader's answers, the tests of a file, and the reader of plate files.
+#![tactic(auto)]
+
 ghost use Rattle.std.specs.Prelude.{◌≡◌, true, not, min, ◌+◌, ◌*◌, ◌/◌, ◌<◌, ◌≤◌, length, get_or, replicate};
 ghost use Rattle.rules.specs.Lists.{number};
 ghost use Rattle.rules.specs.Files.{plate_file, limits1, ports_in, channels_in, ends_in, file_length};
@@ -10,7 +12,7 @@ ghost use Rattle.plate.specs.State.{most_darts, no_ends, no_turns, all_channels,
 use numbers::wide8;
 
 // A plate that was read: its ports and its channels.
-#[derive(Drop)]
+#[derive(Clone, Copy)]
 pub struct Plate {
     pub ports: usize,
     pub channels: usize,
@@ -90,28 +92,28 @@ impl Plate {
 }
 
 // A refusal with its place.
-#[derive(Drop)]
+#[derive(Clone, Copy)]
 pub struct Refusal {
     pub number: u32,
     pub place: u32,
 }
 
 // What a test gives: leave to go on, or a refusal.
-#[derive(Drop)]
+#[derive(Clone, Copy)]
 pub enum Test {
     Passed,
     Refused(Refusal),
 }
 
 // The two kinds of file.
-#[derive(Drop)]
+#[derive(Clone, Copy)]
 pub enum Kind {
     Plate,
     Sheet,
 }
 
 // What reading a plate file gives.
-#[derive(Drop)]
+#[derive(Clone, Copy)]
 pub enum Reading {
     Plate(Plate),
     Refused(Refusal),
@@ -291,7 +293,7 @@ pub fn copy_ends(pairs: &[u8], ends: &mut [u16])
 
 // The ports of the pairs of a file that has them all, then 0 for each further dart of the largest plate.
 fn ends_in(file: &[u8]) -> [u16; Plate::MOST_DARTS]
-    requires* long { do ⌜ (← ⟦Plate::PAIRS_AT⟧) + 2 * channels_in plate_file file.now ≤ length file.now ⌝ }
+    requires long { Plate.PAIRS_AT + 2 * channels_in plate_file file.now ≤ length file.now }
     requires few { 2 * channels_in plate_file file.now ≤ most_darts }
     ensures { (result ≡ copied (ends_in plate_file file.now) no_ends) × (most_darts ≡ length result) }
 {
@@ -304,7 +306,7 @@ fn ends_in(file: &[u8]) -> [u16; Plate::MOST_DARTS]
 
 // Tests 7 to 9 of a file that has all its pairs.
 fn file_pair_tests(file: &[u8]) -> Test
-    requires* long { do ⌜ (← ⟦Plate::PAIRS_AT⟧) + 2 * channels_in plate_file file.now ≤ length file.now ⌝ }
+    requires long { Plate.PAIRS_AT + 2 * channels_in plate_file file.now ≤ length file.now }
     requires few { 2 * channels_in plate_file file.now ≤ most_darts }
     ensures { test_of result ≡ pair_tests (ports_in plate_file file.now) (ends_in plate_file file.now) (channels_in plate_file file.now) }
 {

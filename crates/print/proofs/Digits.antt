@@ -1,6 +1,6 @@
 -- The digits of a number are those of its tenth and one digit more.
 -- enough: any fuel above the number gives the same digits. decimal_low, decimal_high: the digits of a number below ten, and of one of ten or more.
--- decimal_few: a number below 100,000 has at most five digits. tenth-..: the digits of the tenth and a digit more, and the room for them.
+-- decimal_few: a number below 100,000 has at most five digits. tenth_..: the digits of the tenth and a digit more, and the room for them.
 -- Assumes nothing.
 use mathlib.Core.Path.{◌≡◌, refl, sym, ap, ◌∙◌, subst}
 use mathlib.Core.Bool.{Bool, true, false}

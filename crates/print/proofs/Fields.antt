@@ -1,6 +1,6 @@
 -- Fields are written one behind another.
 --   Going t n k e     k of n darts clockwise are passed and e is the next: those that are left have turns
--- fields_cons: the first field apart. fields_one: a field is a blank and the digits. fields_drop, fields_end: those of what is left of a list, behind a dart more and at its end. ring-..: those of what is left of a ring. land-..: those of what is left of a land. below_at: what holds of every number of a list.
+-- fields_cons: the first field apart. fields_one: a field is a blank and the digits. fields_drop, fields_end: those of what is left of a list, behind a dart more and at its end. ring_..: those of what is left of a ring. land_..: those of what is left of a land. below_at: what holds of every number of a list.
 -- Assumes nothing.
 use mathlib.Core.Path.{◌≡◌, refl, sym, ap, ◌∙◌, subst}
 use mathlib.Core.List.{List, [], ◌∷◌, ◌++◌, map, append-nil}

@@ -1,4 +1,6 @@
 // Numbers and lists of numbers, written in digits into a lent buffer.
+#![tactic(auto)]
+
 ghost use Rattle.std.specs.Prelude.{◌≡◌, [], ◌∷◌, map, ◌+◌, ◌%◌, ◌<◌, ◌≤◌, length};
 ghost use Rattle.rules.specs.Terms.{leaves, enters, ring};
 ghost use Rattle.rules.specs.Listing.{decimal, fields};

@@ -2,8 +2,8 @@
 --   Fair m l         the ports of l are distinct and marked in m
 --   added q s        s with port q met
 --   Gains s s'       s' has the ports of s and the ports `new` behind them, and just those are marked besides
--- meet-.., meetAll-..: what is met comes by a dart in play, and what such a dart enters is marked. fair_few: distinct marked ports are at most as many as there are marks (pigeons).
--- held-.., room-..: the marks and the queue of the code hold the state, and the queue has room for a port that has no mark.
+-- meet_.., meet_all_..: what is met comes by a dart in play, and what such a dart enters is marked. fair_few: distinct marked ports are at most as many as there are marks (pigeons).
+-- held_.., room_..: the marks and the queue of the code hold the state, and the queue has room for a port that has no mark.
 -- Assumes nothing.
 use mathlib.Core.Path.{◌≡◌, refl, sym, ap, ◌∙◌, subst}
 use mathlib.Core.Logic.{◌⊎◌, inl, inr, ⊎_elim}

@@ -1,4 +1,6 @@
 // The neighbours of a port, and a flood from a port to all that it is linked to.
+#![tactic(auto)]
+
 ghost use Rattle.std.specs.Prelude.{◌≡◌, false, not, ◌+◌, ◌<◌, ◌≤◌, length};
 ghost use Rattle.rules.specs.Lists.{at, seek};
 ghost use Rattle.rules.specs.Terms.{darts_at};

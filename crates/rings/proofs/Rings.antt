@@ -1,7 +1,7 @@
 -- One ring (rules, "Refusals", `one_ring`): the darts of a port form one exactly where the turns from the first of them come back to it first after as many turns as they are.
 --   turn_of t d          the turn of dart d
 --   g, m                of a list of darts that begins with a: the turns as a function, the length
--- onward_is, ring_is: turns as steps. darts-..: what the darts of a port are. back_ring, ring_back: the two directions.
+-- onward_is, ring_is: turns as steps. darts_..: what the darts of a port are. back_ring, ring_back: the two directions.
 -- Assumes nothing.
 use mathlib.Core.Path.{◌≡◌, refl, sym, ap, ◌∙◌, subst}
 use mathlib.Core.Logic.{◌≢◌, ⊎_elim}

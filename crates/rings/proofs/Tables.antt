@@ -1,5 +1,5 @@
 -- The tables of neighbours at the start of two arrays (the loans of `turn_tests`).
--- front_length, back_length: the start of an array, and an array whose start came back. first-.., more-..: the start of each array has the length and the table that it should. tables: both.
+-- front_length, back_length: the start of an array, and an array whose start came back. first_.., more_..: the start of each array has the length and the table that it should. tables: both.
 -- Assumes nothing.
 use mathlib.Core.Path.{◌≡◌, sym, ap, ◌∙◌}
 use mathlib.Core.List.{List, ◌++◌}

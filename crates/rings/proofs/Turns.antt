@@ -1,5 +1,5 @@
 -- Tests 12 to 14 of one dart and of one port, and the three in their order (rules, "Refusals", `turn_tests`).
--- wild-.., away-..: what the code finds of a dart's turn is what the tests say of it. range_of, ports_of: what is left where a search finds no dart.
+-- wild_.., away_..: what the code finds of a dart's turn is what the tests say of it. range_of, ports_of: what is left where a search finds no dart.
 -- turn_12, turn_13, turn_14, turn_passed: what the tests give, by those that were passed.
 -- Assumes nothing.
 use mathlib.Core.Path.{◌≡◌, sym, ap}

@@ -1,4 +1,6 @@
 // Tests 12 to 14: the turns of a sheet against its pairs.
+#![tactic(auto)]
+
 ghost use Rattle.std.specs.Prelude.{◌≡◌, ◌≤◌, ◌<◌, length};
 ghost use Rattle.rules.specs.Lists.{seek};
 ghost use Rattle.rules.specs.Terms.{darts_at};

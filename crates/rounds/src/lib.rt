@@ -1,4 +1,6 @@
 // Laying over the channels in play: the first cycle, then path after path until a round says no more, or n are laid.
+#![tactic(auto)]
+
 ghost use Rattle.std.specs.Prelude.{◌≡◌, ◌+◌, ◌*◌, ◌≤◌, length};
 ghost use Rattle.reach.specs.Floods.{Tables};
 ghost use Rattle.land.specs.Walks.{lands};
@@ -11,7 +13,7 @@ use fragment::{Choice, Verdict};
 use numbers::fill;
 
 // What the end of a laying says: the word, and the name where it is STUCK.
-#[derive(Drop)]
+#[derive(Clone, Copy)]
 pub enum Word {
     Flat,
     Stuck(usize),
@@ -19,7 +21,7 @@ pub enum Word {
 }
 
 // The end of a laying: the word, the number of paths, the number of lands, and the length of the story.
-#[derive(Drop)]
+#[derive(Clone, Copy)]
 pub struct End {
     pub word: Word,
     pub paths: usize,
@@ -28,7 +30,7 @@ pub struct End {
 }
 
 // What follows a round: the end of the laying with its word, or a path for the choice.
-#[derive(Drop)]
+#[derive(Clone, Copy)]
 enum Next {
     Ends(Word),
     Lays(Choice),

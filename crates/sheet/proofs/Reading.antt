@@ -1,6 +1,6 @@
 -- The reading of a sheet in stages (rules, "Sheets" and "Refusals").
 --   rest b d l       tests 12 to 15 of the file b, d and l elements being lent
--- lent-..: test 15. order-..: a test after another. sheet_stages: the reading is tests 1 to 9, then the rest, then the lands. stop_1, stop_2: a refusal of the first or of the rest. go: what is left where both are passed.
+-- lent_..: test 15. order_..: a test after another. sheet_stages: the reading is tests 1 to 9, then the rest, then the lands. stop_1, stop_2: a refusal of the first or of the rest. go: what is left where both are passed.
 -- answer_unique: two answers that stand for the same are the same. judge_same: buffers for the largest plate are never too short, so the answer is that of judging.
 -- Assumes nothing.
 use mathlib.Core.Path.{◌≡◌, refl, sym, ap, ◌∙◌}

@@ -1,4 +1,6 @@
 // Turn sheets: read into lands and judged.
+#![tactic(auto)]
+
 ghost use Rattle.std.specs.Prelude.{◌≡◌, map, ◌+◌, ◌*◌, ◌<◌, ◌≤◌, length, take};
 ghost use Rattle.rules.specs.Lists.{concat, numbers};
 ghost use Rattle.rules.specs.Terms.{missing};
@@ -14,14 +16,14 @@ ghost use Rattle.sheet.specs.Stages.{lent_for, in_order, lands_in, read_into};
 use plate::{Kind, Plate, Refusal, Test};
 
 // The number of lands, and whether the sheet is flat.
-#[derive(Drop)]
+#[derive(Clone, Copy)]
 pub struct Count {
     pub lands: usize,
     pub flat: bool,
 }
 
 // What reading a sheet gives.
-#[derive(Drop)]
+#[derive(Clone, Copy)]
 pub enum Sheet {
     Judged(Count),
     Refused(Refusal),

@@ -1,11 +1,11 @@
 -- A land of sound turns, walked from whichever of its darts: the darts come in another order, and the smallest of them, with which the land is listed, is the same.
--- least_le, least_low, least_in, least_same: the smallest number of a list depends only on what stands in it. least_first: it is a dart. cut_at: a list is cut at any of its numbers. round-..: a land walked from any of its darts.
--- walked-..: a land of sound turns, listed, and walked from any of its darts: it can be walked, its smallest dart is the one that it is listed from, and it has no more darts than there are.
+-- least_le, least_low, least_in, least_same: the smallest number of a list depends only on what stands in it. least_first: it is a dart. cut_at: a list is cut at any of its numbers. round_..: a land walked from any of its darts.
+-- walked_..: a land of sound turns, listed, and walked from any of its darts: it can be walked, its smallest dart is the one that it is listed from, and it has no more darts than there are.
 -- Assumes nothing.
 use mathlib.Core.Path.{◌≡◌, refl, sym, ap, ◌∙◌, subst}
 use mathlib.Core.Logic.{⊎_elim}
 use mathlib.Core.List.{List, [], ◌∷◌, ◌++◌}
-use Prim.Native.Nat.{ℕ, zero, suc, ◌+◌, ◌%◌, ◌<◌, ◌≤◌}
+use Prim.Native.Nat.{ℕ, zero, suc, ◌%◌, ◌<◌, ◌≤◌}
 use native.Mathlib.Nat.{not-suc-le-zero}
 use native.Mathlib.Omega.{arith}
 use lib.ListN.{length, get_or}

@@ -1,4 +1,6 @@
 // The turns and the lands of a laying, changed by one path, and as the first cycle leaves them. A land is kept as its first dart and its length.
+#![tactic(auto)]
+
 ghost use Rattle.std.specs.Prelude.{◌≡◌, ◌≢◌, ◌∷◌, ◌<◌, T, length, set};
 ghost use Rattle.rules.specs.Terms.{missing, least, visits};
 ghost use Rattle.rules.specs.Laying.{back, link, around};
@@ -9,7 +11,7 @@ ghost use Rattle.split.specs.Halves.{Found, Divisible, Divided, Cyclic, Begun};
 use numbers::{fill, narrow, reverse, wide};
 
 // A stretch of a land: its first dart, its last, and how many it has.
-#[derive(Drop)]
+#[derive(Clone, Copy)]
 struct Stretch {
     first: usize,
     last: usize,
@@ -17,7 +19,7 @@ struct Stretch {
 }
 
 // The two stretches of a land that a path divides: A from x to y, B from y to x.
-#[derive(Drop)]
+#[derive(Clone, Copy)]
 struct Stretches {
     a: Stretch,
     b: Stretch,

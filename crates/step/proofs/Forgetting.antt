@@ -1,7 +1,7 @@
 -- What is known of the lands (fragment, "Bars"), forgotten for the channels of a fragment and kept for the others (specs, "Rooms").
 --   Forgot own old new j     before place j the numbers of new are those of old forgotten, and from j on they are those of old
 --   z                        the state after the path
--- forgotten-..: what is forgotten, and what stays. forgot-..: the invariant of the loop that forgets. bars_stay: what is known after a path.
+-- forgotten_..: what is forgotten, and what stays. forgot_..: the invariant of the loop that forgets. bars_stay: what is known after a path.
 -- Assumes nothing.
 use mathlib.Core.Path.{◌≡◌, refl, sym, ap, ◌∙◌, subst}
 use mathlib.Core.Logic.{◌≢◌, ◌⊎◌, inl, inr, ⊎_elim}

@@ -1,6 +1,6 @@
 -- What the slices hold (specs, "Rooms"), after the first cycle and after each path.
 --   choice_at v ends play lp ls k     the choice of the fragment that channel k names, lp being the laid ports and ls the lands
--- lands_few: a kept state has at most two lands more than there are channels, and at most two darts for each. place-..: so there is room in the story. chosen-..: what a choice says of the fragment that the code names.
+-- lands_few: a kept state has at most two lands more than there are channels, and at most two darts for each. place_..: so there is room in the story. chosen_..: what a choice says of the fragment that the code names.
 -- can_divide, did_divide: the path found can be laid, and then the state after it is held. can_begin, did_begin: so it is with the first cycle.
 -- Assumes nothing.
 use mathlib.Core.Path.{◌≡◌, refl, sym, ap, ◌∙◌, subst}

@@ -1,4 +1,6 @@
 // One step of a laying: the first cycle, or one path for a fragment, each with its entry in the story.
+#![tactic(auto)]
+
 ghost use Rattle.std.specs.Prelude.{◌≡◌, true, false, ◌+◌, ◌*◌, ◌<◌, ◌≤◌, length, set};
 ghost use Rattle.rules.specs.Lists.{at, seek};
 ghost use Rattle.rules.specs.Laying.{State, Choice, start, lay, first_channel};
@@ -11,7 +13,7 @@ use numbers::{mark_all, narrow, wide};
 use plate::Plate;
 
 // A path: the two ports that it joins, and how many darts it has.
-#[derive(Drop)]
+#[derive(Clone, Copy)]
 struct Way {
     x: usize,
     y: usize,

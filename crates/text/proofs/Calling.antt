@@ -2,14 +2,13 @@
 -- filed_ports, filed_channels, filed_darts: a plate that was read is within the limits. filed_plan: it can be laid. ask_listing, listed_of: it can be listed then, and that is its listing. ask_laid, ask_turns: what each function asks of the next, from arrays of the largest size. filed_of: the plate of a file that was read.
 -- call_short, call_read, call_refused: what the call gives (`Answers`) where too few bytes are lent, for a plate, and for a refusal. count_within: the bytes written are among those lent.
 -- Assumes nothing.
-use mathlib.Core.Path.{◌≡◌, refl, sym, ap, ◌∙◌, subst}
-use mathlib.Core.Bool.{Bool, true, false, cond}
+use mathlib.Core.Path.{◌≡◌, sym, ap, ◌∙◌, subst}
+use mathlib.Core.Bool.{Bool, true}
 use mathlib.Core.List.{List, [], ◌∷◌, ◌++◌}
 use Prim.Native.Nat.{ℕ, ◌+◌, ◌*◌, ◌/◌, ◌<◌, ◌≤◌}
 use native.Mathlib.Decide.{dec_lt}
 use native.Mathlib.Omega.{arith}
-use lib.Dec.{ltb}
-use borrow.Author.Tests.{lt-ltb, le-ltb, ltb-false}
+use borrow.Author.Tests.{lt-ltb, le-ltb}
 use lib.ListN.{length, take, drop, replicate, length-replicate}
 use Rattle.rules.specs.Lists.{any}
 use Rattle.rules.specs.Files.{limits1}

@@ -1,4 +1,6 @@
 // The listing call: a plate file is read, laid without a cap, and listed in the buffer that the caller lends.
+#![tactic(auto)]
+
 ghost use Rattle.std.specs.Prelude.{◌≡◌, true, ◌+◌, ◌*◌, ◌/◌, ◌≤◌, length, replicate};
 ghost use Rattle.print.specs.Puts.{Put};
 ghost use Rattle.rules.specs.Laying.{bytes_left, bytes_told};
@@ -9,7 +11,7 @@ use numbers::wide32;
 use plate::{Plate, Reading, Refusal};
 
 // What the listing call answers: how many bytes it wrote, or a refusal.
-#[derive(Drop)]
+#[derive(Clone, Copy)]
 pub enum Listed {
     Bytes(usize),
     Refused(Refusal),

@@ -1,4 +1,6 @@
 // The path from port x to port y that has fewest channels and then the smallest list of ports.
+#![tactic(auto)]
+
 ghost use Rattle.std.specs.Prelude.{◌≡◌, ◌⊎◌, ◌&&◌, ◌++◌, ◌+◌, ◌<◌, ◌≤◌, T, length, drop};
 ghost use Rattle.rules.specs.Lists.{from, at};
 ghost use Rattle.rules.specs.Terms.{missing, reverse, leaves, enters};

@@ -1,0 +1,96 @@
+-- `draft::lay_sheet` meets its contract: a plate that is STUCK and one that is FLAT are the two cases of laying without a cap (Calling).
+-- Assumes nothing.
+use Rattle.plate.specs.declared.Reading.TheVariants.{Plate as Read}
+use mathlib.Core.Path.{◌≡◌, refl, sym, ap, ◌∙◌}
+use mathlib.Core.List.{List, ◌++◌}
+use Prim.Native.Nat.{ℕ, ◌+◌, ◌-◌, ◌*◌, ◌≤◌}
+use native.Mathlib.Omega.{arith}
+use lib.ListN.{length, take, drop, length-append}
+use lib.Seq.{length-take-le, take_at}
+use Rattle.rules.specs.Refusals.{pairs_of}
+use Rattle.plate.specs.State.{most_darts}
+use Rattle.plate.proofs.Laws.{Known, known, part_is, pairs_length}
+use Rattle.laid.proofs.Leaving.{ports_fewer, fits}
+use Rattle.draft.proofs.Calling.{unstuck_of, stuck_small, stuck_all, flat_all}
+use Rattle.draft.proofs.lay_sheet.Goals as goal
+use Rattle.draft.proofs.lay_sheet.Goals.{After-lay_pairs-laid, After-pairs-pairs, Start}
+
+-- the plate that was read
+plate : (c : Start) → Known c.args.file.now c.args.p
+plate c = known _ (Read c.args.p) c.requires.plate _ refl
+
+-- an array for the largest plate has place for what is lent of it
+sized : (c : Start) (l : List ℕ) → most_darts ≡ length l → (2 * c.args.p.channels ≤ length l) × (c.args.p.channels + 2 - c.args.p.ports ≤ length l)
+sized c l e = (omega (arith, (plate c).most_channels_lem), omega (arith, (plate c).most_channels_lem))
+
+pairs : (c : After-pairs-pairs) → c.pairs-pairs.result.now ≡ pairs_of c.args.file.now
+pairs c = c.pairs-pairs.ensures ∙ part_is _ (Read c.args.p) c.requires.plate
+
+-- the parts that were lent
+most_lent : (c : After-lay_pairs-laid) → length (take (c.args.p.channels + 2 - c.args.p.ports) c.no_turns-lengths.result) ≡ c.args.p.channels + 2 - c.args.p.ports
+most_lent c =
+    let plate : Known c.args.file.now c.args.p = known _ (Read c.args.p) c.requires.plate _ refl in
+    let sized : (l : List ℕ) → most_darts ≡ length l → (2 * c.args.p.channels ≤ length l) × (c.args.p.channels + 2 - c.args.p.ports ≤ length l) = λ l e. (omega (arith, plate.most_channels_lem), omega (arith, plate.most_channels_lem)) in
+    length-take-le _ _ (sized c.no_turns-lengths.result c.no_turns-lengths.ensures.1).1
+
+turns_lent : (c : After-lay_pairs-laid) → length c.lay_pairs-laid.new.turns ≡ 2 * c.args.p.channels
+turns_lent c =
+    let plate : Known c.args.file.now c.args.p = known _ (Read c.args.p) c.requires.plate _ refl in
+    let sized : (l : List ℕ) → most_darts ≡ length l → (2 * c.args.p.channels ≤ length l) × (c.args.p.channels + 2 - c.args.p.ports ≤ length l) = λ l e. (omega (arith, plate.most_channels_lem), omega (arith, plate.most_channels_lem)) in
+    c.lay_pairs-laid.auto.turns ∙ length-take-le _ _ (sized c.no_turns-turns.result c.no_turns-turns.ensures.1).0
+
+-- the array of the turns begins with them
+turns_front : (c : After-lay_pairs-laid) → take (2 * c.args.p.channels) (c.lay_pairs-laid.new.turns ++ drop (2 * c.args.p.channels) c.no_turns-turns.result) ≡ c.lay_pairs-laid.new.turns
+turns_front c = take_at _ _ _ (turns_lent c)
+
+pub overflow_mul-darts : goal.overflow_mul-darts
+overflow_mul-darts c = omega (arith, (plate (goal.at.overflow_mul-darts c).Start).most_channels_lem)
+
+pub overflow_add-most : goal.overflow_add-most
+overflow_add-most c = omega (arith, (plate (goal.at.overflow_add-most c).Start).most_channels_lem)
+
+pub overflow_sub-most : goal.overflow_sub-most
+overflow_sub-most c = omega (arith, ports_fewer _ _ (plate (goal.at.overflow_sub-most c).Start))
+
+pub slice_bounds-turns-end : goal.slice_bounds-turns-end
+slice_bounds-turns-end c = (sized (goal.at.slice_bounds-turns-end c).Start c.no_turns-turns.result c.no_turns-turns.ensures.1).0
+
+pub slice_bounds-lay_pairs-end : goal.slice_bounds-lay_pairs-end
+slice_bounds-lay_pairs-end c = sym (length-take-le _ _ (sized (goal.at.slice_bounds-lay_pairs-end c).Start c.no_turns-turns.result c.no_turns-turns.ensures.1).0)
+
+pub slice_bounds-lands-end : goal.slice_bounds-lands-end
+slice_bounds-lands-end c = (sized (goal.at.slice_bounds-lands-end c).Start c.no_turns-lands.result c.no_turns-lands.ensures.1).0
+
+pub slice_bounds-lay_pairs-end-2 : goal.slice_bounds-lay_pairs-end-2
+slice_bounds-lay_pairs-end-2 c = sym (length-take-le _ _ (sized (goal.at.slice_bounds-lay_pairs-end-2 c).Start c.no_turns-lands.result c.no_turns-lands.ensures.1).0)
+
+pub slice_bounds-lengths-end : goal.slice_bounds-lengths-end
+slice_bounds-lengths-end c = (sized (goal.at.slice_bounds-lengths-end c).Start c.no_turns-lengths.result c.no_turns-lengths.ensures.1).1
+
+pub slice_bounds-lay_pairs-end-3 : goal.slice_bounds-lay_pairs-end-3
+slice_bounds-lay_pairs-end-3 c = sym (length-take-le _ _ (sized (goal.at.slice_bounds-lay_pairs-end-3 c).Start c.no_turns-lengths.result c.no_turns-lengths.ensures.1).1)
+
+pub lay_pairs-laid-requires : goal.lay_pairs-laid-requires
+lay_pairs-laid-requires c = fits _ _ (plate (goal.at.lay_pairs-laid-requires c).Start) _ _ (pairs (goal.at.lay_pairs-laid-requires c).After-pairs-pairs) _ _ _ (length-take-le _ _ (sized (goal.at.lay_pairs-laid-requires c).Start c.no_turns-turns.result c.no_turns-turns.ensures.1).0) (length-take-le _ _ (sized (goal.at.lay_pairs-laid-requires c).Start c.no_turns-lands.result c.no_turns-lands.ensures.1).0) (length-take-le _ _ (sized (goal.at.lay_pairs-laid-requires c).Start c.no_turns-lengths.result c.no_turns-lengths.ensures.1).1)
+
+pub stuck_at-requires : goal.stuck_at-requires
+stuck_at-requires c = omega (arith, stuck_small _ _ (plate (goal.at.stuck_at-requires c).Start) _ (pairs (goal.at.stuck_at-requires c).After-pairs-pairs) _ _ _ _ _ c.lay_pairs-laid.ensures (most_lent (goal.at.stuck_at-requires c).After-lay_pairs-laid) _ _ c.in-Stuck.is)
+
+pub returns-in-Stuck : goal.returns-in-Stuck
+returns-in-Stuck c =
+    let w = stuck_all _ _ (plate (goal.at.returns-in-Stuck c).Start) _ (pairs (goal.at.returns-in-Stuck c).After-pairs-pairs) _ _ _ _ _ c.lay_pairs-laid.ensures (most_lent (goal.at.returns-in-Stuck c).After-lay_pairs-laid) c.args.out.now c.requires.room _ _ c.in-Stuck.is _ c.stuck_at.ensures in
+    record { answer = w.0; sheet = w.1 }
+
+pub slice_bounds-turns-end-2 : goal.slice_bounds-turns-end-2
+slice_bounds-turns-end-2 c = simp length-append (omega (arith, turns_lent (goal.at.slice_bounds-turns-end-2 c).After-lay_pairs-laid))
+
+pub slice_bounds-put_sheet-end : goal.slice_bounds-put_sheet-end
+slice_bounds-put_sheet-end c = sym (ap length (turns_front (goal.at.slice_bounds-put_sheet-end c).After-lay_pairs-laid) ∙ turns_lent (goal.at.slice_bounds-put_sheet-end c).After-lay_pairs-laid)
+
+pub put_sheet-requires : goal.put_sheet-requires
+put_sheet-requires c = record { pairs = ap length (pairs (goal.at.put_sheet-requires c).After-pairs-pairs) ∙ pairs_length _ _ (plate (goal.at.put_sheet-requires c).Start); turns = ap length (turns_front (goal.at.put_sheet-requires c).After-lay_pairs-laid) ∙ turns_lent (goal.at.put_sheet-requires c).After-lay_pairs-laid; room = c.requires.room }
+
+pub returns : goal.returns
+returns c =
+    let w = flat_all _ _ (plate (goal.at.returns c).Start) _ (pairs (goal.at.returns c).After-pairs-pairs) _ _ _ _ _ c.lay_pairs-laid.ensures (most_lent (goal.at.returns c).After-lay_pairs-laid) c.args.out.now c.requires.room (unstuck_of c.lay_pairs-laid.result c.in_default.not-Stuck) _ _ (turns_front (goal.at.returns c).After-lay_pairs-laid) c.put_sheet.ensures in
+    record { answer = w.0; sheet = w.1 }

@@ -1,0 +1,10 @@
+-- `land::lower` meets its contract: the test of the code is the test of the definition.
+-- Assumes nothing.
+use borrow.Author.Tests.{lt-ltb, le-ltb}
+use Rattle.land.proofs.lower.Goals as goal
+
+pub returns-then-a-b : goal.returns-then-a-b
+returns-then-a-b c = rw (lt-ltb c.args.a c.args.b c.if-a-b.true)
+
+pub returns : goal.returns
+returns c = rw (le-ltb c.args.a c.args.b c.if-a-b.false)

@@ -1,0 +1,80 @@
+-- `step::lay_one` meets its contract: the path found is the one of the choice cross, so that it can be laid in the land of the choice, and the turns, the lands and the story are then those of the state after it (Entering).
+-- What is known of the lands is forgotten for the channels of the choice, and stays for the others (Forgetting).
+-- Assumes nothing.
+use mathlib.Core.Path.{◌≡◌, ◌∙◌}
+use Prim.Native.Nat.{ℕ, ◌+◌, ◌-◌, ◌<◌, ◌≤◌}
+use native.Mathlib.Omega.{arith}
+use lib.ListN.{length}
+use borrow.Rule.Slice.PartMut.{put_mid, same_len_mid}
+use Rattle.step.proofs.Writing.{part_long}
+use Rattle.step.proofs.Telling.{place_room, chosen_passable, end_room, size_small}
+use Rattle.step.proofs.Entering.{ask_divide, laid_path}
+use Rattle.step.proofs.Forgetting.{bars_stay}
+use Rattle.step.proofs.lay_one.Goals as goal
+use Rattle.step.proofs.lay_one.Goals.{After-cross-way, Start}
+
+-- there is room in the story for the numbers of an entry and a path
+room : (c : Start) → c.args.at + 3 + length c.args.laid.now ≤ length c.args.story.now
+room c = place_room _ _ _ c.requires.plan.layable _ _ _ _ _ _ _ c.requires.chosen.1.1.stands
+
+-- the story is as long as it was
+kept : (c : After-cross-way) → length (put_mid (c.args.at + 3) (length c.args.story.now - (c.args.at + 3)) c.args.story.now c.cross-way.new.out) ≡ length c.args.story.now
+kept c = same_len_mid {X = ℕ} (c.args.at + 3) (length c.args.story.now - (c.args.at + 3)) c.args.story.now c.cross-way.new.out c.cross-way.auto.out
+
+-- and has room for the path
+ending : (c : After-cross-way) → c.args.at + 3 + c.cross-way.result.size ≤ length c.args.story.now
+ending c = omega (arith, c.cross-way.ensures.size, end_room _ _ _ c.requires.plan.layable _ _ _ _ _ _ _ _ _ _ _ c.requires.chosen.1.1)
+
+-- the numbers fit 16 bits
+small : (c : After-cross-way) → (c.cross-way.result.x < 65536) × (c.cross-way.result.y < 65536) × (c.cross-way.result.size < 65536) × (c.args.name < 65536) × (c.args.land < 65536)
+small c =
+    let p = chosen_passable _ _ _ c.requires.plan.layable _ _ _ _ _ _ _ _ _ _ _ c.requires.chosen.1.1 in
+    let z = size_small _ _ _ c.requires.plan.layable _ _ _ _ _ _ _ _ _ _ _ c.requires.chosen.1.1 in
+    (omega (arith, c.cross-way.ensures.x, p.x, c.requires.plan.small), omega (arith, c.cross-way.ensures.y, p.y, c.requires.plan.small), omega (arith, c.cross-way.ensures.size, z), z.1, z.2)
+
+pub overflow_add-from : goal.overflow_add-from
+overflow_add-from c = omega (arith, room (goal.at.overflow_add-from c).Start, c.well_formed.1.1.1.1.1.1.1.1.1.1.1.1.1.1.1.1.1.0)
+
+pub offset_bounds-story-from : goal.offset_bounds-story-from
+offset_bounds-story-from c = omega (arith, room (goal.at.offset_bounds-story-from c).Start, c.well_formed.1.1.1.1.1.1.1.1.1.1.1.1.1.1.1.1.1.0)
+
+pub slice_bounds-cross-count : goal.slice_bounds-cross-count
+slice_bounds-cross-count c = omega (arith, room (goal.at.slice_bounds-cross-count c).Start)
+
+pub slice_bounds-cross-start : goal.slice_bounds-cross-start
+slice_bounds-cross-start c = omega (arith, room (goal.at.slice_bounds-cross-start c).Start)
+
+pub cross-way-requires : goal.cross-way-requires
+cross-way-requires c = record { plan = c.requires.plan; tables = c.requires.tables; desk = c.requires.desk; room = part_long c.args.story.now (c.args.at + 3) _ (room (goal.at.cross-way-requires c).Start); passable = chosen_passable _ _ _ c.requires.plan.layable _ _ _ _ _ _ _ _ _ _ _ c.requires.chosen.1.1 }
+
+pub forget-requires : goal.forget-requires
+forget-requires c = omega (arith, c.cross-way.auto.own, c.requires.desk.of_own, c.requires.plan.layable.size2, c.requires.bars.long)
+
+pub overflow_add-end : goal.overflow_add-end
+overflow_add-end c = omega (arith, ending (goal.at.overflow_add-end c).After-cross-way, c.well_formed.1.1.1.1.1.1.1.1.1.1.1.1.1.1.1.1.1.0)
+
+pub narrow-requires : goal.narrow-requires
+narrow-requires c = omega (arith, small (goal.at.narrow-requires c).After-cross-way)
+
+pub narrow-requires-2 : goal.narrow-requires-2
+narrow-requires-2 c = omega (arith, small (goal.at.narrow-requires-2 c).After-cross-way)
+
+pub offset_bounds-story-from-2 : goal.offset_bounds-story-from-2
+offset_bounds-story-from-2 c = omega (arith, ending (goal.at.offset_bounds-story-from-2 c).After-cross-way, c.well_formed.1.1.1.1.1.1.1.1.1.1.1.1.1.1.1.1.1.0)
+
+pub slice_bounds-divide-end : goal.slice_bounds-divide-end
+slice_bounds-divide-end c = omega (arith, ending (goal.at.slice_bounds-divide-end c).After-cross-way, kept (goal.at.slice_bounds-divide-end c).After-cross-way)
+
+pub divide-requires : goal.divide-requires
+divide-requires c = ask_divide _ _ _ c.requires.plan.layable _ _ _ _ _ _ _ _ _ _ _ c.requires.chosen.1.1 _ _ _ _ (c.narrow.ensures ∙ c.cross-way.ensures.x) (c.narrow-2.ensures ∙ c.cross-way.ensures.y) c.cross-way.ensures.size c.cross-way.ensures.held
+
+pub enter-requires : goal.enter-requires
+enter-requires c =
+    let z = small (goal.at.enter-requires c).After-cross-way in
+    record { room = omega (arith, ending (goal.at.enter-requires c).After-cross-way, kept (goal.at.enter-requires c).After-cross-way); small = (z.3, z.4, z.2) }
+
+pub shape_of-story : goal.shape_of-story
+shape_of-story c = c.enter.auto.story ∙ kept (goal.at.shape_of-story c).After-cross-way
+
+pub returns : goal.returns
+returns c = record { standing = (λ s e C. laid_path _ _ _ c.requires.plan.layable s e _ _ _ _ _ _ _ _ _ C _ _ _ _ (c.narrow.ensures ∙ c.cross-way.ensures.x) (c.narrow-2.ensures ∙ c.cross-way.ensures.y) c.cross-way.ensures.size c.cross-way.ensures.held _ _ _ _ c.divide.ensures c.enter.ensures (c.enter.auto.story ∙ kept (goal.at.returns c).After-cross-way)); bars = bars_stay _ _ _ c.requires.plan.layable _ _ _ _ _ _ _ _ _ _ _ c.requires.chosen.1.1 _ _ _ _ _ (laid_path _ _ _ c.requires.plan.layable _ _ _ _ _ _ _ _ _ _ _ c.requires.chosen.1.1 _ _ _ _ (c.narrow.ensures ∙ c.cross-way.ensures.x) (c.narrow-2.ensures ∙ c.cross-way.ensures.y) c.cross-way.ensures.size c.cross-way.ensures.held _ _ _ _ c.divide.ensures c.enter.ensures (c.enter.auto.story ∙ kept (goal.at.returns c).After-cross-way)) _ c.cross-way.ensures.own _ c.requires.bars _ c.forget.ensures }

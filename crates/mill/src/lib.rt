@@ -1,4 +1,6 @@
-// The mill's two calls from C: write a sheet from a plate, and judge a sheet. Each answers one number.
+// The mill's two calls: write a sheet from a plate, and judge a sheet. Each answers one number. C has them from `mill_c`.
+#![tactic(auto)]
+
 ghost use Rattle.std.specs.Prelude.{◌≡◌, cond, ◌*◌, ◌+◌, ◌<◌, ◌≤◌, length};
 ghost use Rattle.rules.specs.Laying.{bytes_left};
 ghost use Rattle.rules.specs.Sheets.{write_sheet};
@@ -30,8 +32,7 @@ fn flat_number(flat: bool) -> u32
 }
 
 // Writes the sheet of a plate file into the buffer lent: 0 where it is written, and otherwise its refusal, which alters no byte.
-#[unsafe(no_mangle)]
-pub extern "C" fn plate_write_sheet(file: &[u8], out: &mut [u8]) -> u32
+pub fn plate_write_sheet(file: &[u8], out: &mut [u8]) -> u32
     ensures number { result ≡ write_number file.now out.old }
     ensures sheet { out.new ≡ bytes_left (write_sheet file.now (length out.old)) out.old }
 {
@@ -43,8 +44,7 @@ pub extern "C" fn plate_write_sheet(file: &[u8], out: &mut [u8]) -> u32
 }
 
 // Judges a sheet: 0 where it is flat, 1 where it is not, and otherwise its refusal.
-#[unsafe(no_mangle)]
-pub extern "C" fn plate_judge_sheet(file: &[u8]) -> u32
+pub fn plate_judge_sheet(file: &[u8]) -> u32
     ensures { result ≡ judge_number file.now }
 {
     let got = sheet::judge(file);

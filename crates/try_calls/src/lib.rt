@@ -1,4 +1,6 @@
-// The calls that the mill does not have, for the C programs that test and time: the pairs, laying, reading a sheet, and listing.
+// The calls that the mill does not have, for the C programs that test and time: the pairs, laying, reading a sheet, and listing. C has them from `try_calls_c`.
+#![tactic(auto)]
+
 ghost use Rattle.std.specs.Prelude.{◌≡◌, length};
 ghost use Rattle.rules.specs.Refusals.{pairs_of};
 ghost use Rattle.rules.specs.Laying.{lay_plate, told, bytes_left, bytes_told, turns_left, lands_left, lengths_left};
@@ -53,8 +55,7 @@ fn hand(from: [u64; 4], to: &mut [u64; 4])
     *to = from;
 }
 
-#[unsafe(no_mangle)]
-pub extern "C" fn try_lay(
+pub fn try_lay(
     file: &[u8],
     n: u32,
     turns: &mut [u16],
@@ -72,13 +73,7 @@ pub extern "C" fn try_lay(
     hand(numbers, answer);
 }
 
-#[unsafe(no_mangle)]
-pub extern "C" fn try_read_sheet(
-    file: &[u8],
-    darts: &mut [u16],
-    lengths: &mut [u16],
-    answer: &mut [u64; 4],
-)
+pub fn try_read_sheet(file: &[u8], darts: &mut [u16], lengths: &mut [u16], answer: &mut [u64; 4])
     ensures answer { answer.new ≡ count_numbers (counted (read_sheet file.now (length darts.old) (length lengths.old))) }
     ensures darts { darts.new ≡ darts_read (read_sheet file.now (length darts.old) (length lengths.old)) darts.old }
     ensures lengths { lengths.new ≡ lengths_read (read_sheet file.now (length darts.old) (length lengths.old)) lengths.old }
@@ -88,8 +83,7 @@ pub extern "C" fn try_read_sheet(
     hand(numbers, answer);
 }
 
-#[unsafe(no_mangle)]
-pub extern "C" fn try_listing(file: &[u8], out: &mut [u8], answer: &mut [u64; 4])
+pub fn try_listing(file: &[u8], out: &mut [u8], answer: &mut [u64; 4])
     ensures answer { answer.new ≡ bytes_numbers (bytes_told (write_listing file.now (length out.old))) }
     ensures bytes { out.new ≡ bytes_left (write_listing file.now (length out.old)) out.old }
 {
@@ -99,8 +93,7 @@ pub extern "C" fn try_listing(file: &[u8], out: &mut [u8], answer: &mut [u64; 4]
 }
 
 // The pairs that the reader hands back, copied to the front of `ends`, as many as fit; and how many bytes they are.
-#[unsafe(no_mangle)]
-pub extern "C" fn try_pairs(file: &[u8], ends: &mut [u16]) -> usize
+pub fn try_pairs(file: &[u8], ends: &mut [u16]) -> usize
     ensures count { result ≡ length (pairs_of file.now) }
     ensures ends { ends.new ≡ copied (pairs_of file.now) ends.old }
 {

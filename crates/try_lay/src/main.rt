@@ -1,7 +1,10 @@
 // Plates to lay: those that document 01 gives, the smallest and the largest plates, and buffers exact and one short. Prints what laying them answers, and for small plates the three buffers afterwards, which were all 7.
+#![tactic(auto)]
+
 ghost use Rattle.std.specs.Prelude.{◌≡◌, ◌≤◌, length};
 
 use laid::Laid;
+use std::io;
 
 // ---- files
 
@@ -50,104 +53,107 @@ fn ring(channels: usize) -> [u8; 1208]
 // ---- answers
 
 // Prints a space and a number.
-fn number(x: usize) {
-    io::write_all(1, b" ");
-    io::print_decimal(1, x as u64);
+fn number(rt: &impl Print, x: usize) -> io::Result<()> {
+    print!(rt; " {x}")
 }
 
 // Ends a line.
-fn end_line() {
-    io::write_all(1, b"\n");
+fn end_line(rt: &impl Print) -> io::Result<()> {
+    println!(rt; "")
 }
 
 // Prints a word and numbers on a line.
-fn numbers(word: &[u8], s: &[u16]) {
-    io::write_all(1, word);
-    let mut i = 0;
-    while i < s.len() {
-        number(s[i] as usize);
-        i += 1;
+fn numbers(rt: &impl Print, word: &str, s: &[u16]) -> io::Result<()> {
+    print!(rt; "{word}")?;
+    for x in s {
+        number(rt, *x as usize)?;
     }
-    end_line();
+    end_line(rt)
 }
 
 // Prints an answer on a line.
-fn answer(got: Laid) {
+fn answer(rt: &impl Print, got: Laid) -> io::Result<()> {
     match got {
         Laid::Flat(paths) => {
-            io::write_all(1, b"FLAT");
-            number(paths);
+            print!(rt; "FLAT")?;
+            number(rt, paths)?;
         }
         Laid::Stuck(paths, name) => {
-            io::write_all(1, b"STUCK");
-            number(paths);
-            number(name);
+            print!(rt; "STUCK")?;
+            number(rt, paths)?;
+            number(rt, name)?;
         }
         Laid::Partial(paths) => {
-            io::write_all(1, b"PARTIAL");
-            number(paths);
+            print!(rt; "PARTIAL")?;
+            number(rt, paths)?;
         }
         Laid::Refused(x) => {
-            io::write_all(1, b"REFUSED");
-            number(x.number as usize);
-            number(x.place as usize);
+            print!(rt; "REFUSED")?;
+            number(rt, x.number as usize)?;
+            number(rt, x.place as usize)?;
         }
     }
-    end_line();
+    end_line(rt)
 }
 
 // Lays a small plate into t turns, l land darts and s lengths, and prints the answer and the buffers.
-fn small(file: &[u8], n: u32, t: usize, l: usize, s: usize)
+fn small(rt: &impl Print, file: &[u8], n: u32, t: usize, l: usize, s: usize) -> io::Result<()>
     requires { (t ≤ 14) × (l ≤ 14) × (s ≤ 6) }
 {
     let mut turns = [7u16; 14];
     let mut lands = [7u16; 14];
     let mut lengths = [7u16; 6];
-    answer(lay::lay(file, n, &mut turns[..t], &mut lands[..l], &mut lengths[..s]));
-    numbers(b"turns", &turns);
-    numbers(b"lands", &lands);
-    numbers(b"lengths", &lengths);
+    answer(
+        rt,
+        lay::lay(file, n, &mut turns[..t], &mut lands[..l], &mut lengths[..s]),
+    )?;
+    numbers(rt, "turns", &turns)?;
+    numbers(rt, "lands", &lands)?;
+    numbers(rt, "lengths", &lengths)
 }
 
 // Lays any plate into t turns, l land darts and s lengths, and prints the answer.
-fn large(file: &[u8], n: u32, t: usize, l: usize, s: usize)
+fn large(rt: &impl Print, file: &[u8], n: u32, t: usize, l: usize, s: usize) -> io::Result<()>
     requires { (t ≤ 1200) × (l ≤ 1200) × (s ≤ 602) }
 {
     let mut turns = [7u16; 1200];
     let mut lands = [7u16; 1200];
     let mut lengths = [7u16; 602];
-    answer(lay::lay(file, n, &mut turns[..t], &mut lands[..l], &mut lengths[..s]));
+    answer(
+        rt,
+        lay::lay(file, n, &mut turns[..t], &mut lands[..l], &mut lengths[..s]),
+    )
 }
 
 // ---- the cases
 
 // The plates of document 01.
-fn given_cases() {
-    small(&triangle(), 0, 6, 6, 2);
-    small(&four_ports(), 1, 14, 14, 6);
-    small(&four_ports(), 2, 12, 12, 4);
-    large(&five_ports(), 1, 20, 20, 7);
-    large(&five_ports(), 2, 20, 20, 7);
-    large(&three_and_three(), 0, 18, 18, 5);
-    large(&three_and_three(), 1, 18, 18, 5);
+fn given_cases(rt: &impl Print) -> io::Result<()> {
+    small(rt, &triangle(), 0, 6, 6, 2)?;
+    small(rt, &four_ports(), 1, 14, 14, 6)?;
+    small(rt, &four_ports(), 2, 12, 12, 4)?;
+    large(rt, &five_ports(), 1, 20, 20, 7)?;
+    large(rt, &five_ports(), 2, 20, 20, 7)?;
+    large(rt, &three_and_three(), 0, 18, 18, 5)?;
+    large(rt, &three_and_three(), 1, 18, 18, 5)
 }
 
 // The smallest plate and the largest, buffers exact and each one short, and n far above the need.
-fn edge_cases() {
-    small(&triangle(), 4294967295, 6, 6, 2);
-    small(&triangle(), 0, 5, 6, 2);
-    small(&triangle(), 0, 6, 5, 2);
-    small(&triangle(), 0, 6, 6, 1);
+fn edge_cases(rt: &impl Print) -> io::Result<()> {
+    small(rt, &triangle(), 4294967295, 6, 6, 2)?;
+    small(rt, &triangle(), 0, 5, 6, 2)?;
+    small(rt, &triangle(), 0, 6, 5, 2)?;
+    small(rt, &triangle(), 0, 6, 6, 1)?;
     let few = ring(200);
-    large(&few[..408], 4294967295, 400, 400, 2);
+    large(rt, &few[..408], 4294967295, 400, 400, 2)?;
     let many = ring(600);
-    large(&many, 4294967295, 1200, 1200, 402);
-    large(&many, 4294967295, 1199, 1200, 402);
-    large(&many, 4294967295, 1200, 1199, 402);
-    large(&many, 4294967295, 1200, 1200, 401);
+    large(rt, &many, 4294967295, 1200, 1200, 402)?;
+    large(rt, &many, 4294967295, 1199, 1200, 402)?;
+    large(rt, &many, 4294967295, 1200, 1199, 402)?;
+    large(rt, &many, 4294967295, 1200, 1200, 401)
 }
 
-fn main() {
-    given_cases();
-    edge_cases();
+fn main(rt: HostRuntime) -> io::Result<()> {
+    given_cases(&rt)?;
+    edge_cases(&rt)
 }

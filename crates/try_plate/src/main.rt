@@ -1,62 +1,66 @@
 // Plate files to try: reads them from standard input, one after another, each behind its length in two bytes, and prints what reading each gives and how many bytes its pairs have.
-ghost use Rattle.std.specs.Prelude.{◌<◌, ◌≤◌, length};
+#![tactic(auto)]
 
+ghost use Rattle.std.specs.Prelude.{◌<◌, ◌≤◌, length, IfOk};
+
+use intake::fill_from;
 use numbers::wide8;
 use plate::Reading;
+use std::io;
 
 // Prints a space and a number.
-fn number(x: usize) {
-    io::write_all(1, b" ");
-    io::print_decimal(1, x as u64);
+fn number(rt: &impl Print, x: usize) -> io::Result<()> {
+    print!(rt; " {x}")
 }
 
 // Prints what reading a file gives.
-fn answer(file: &[u8]) {
+fn answer(rt: &impl Print, file: &[u8]) -> io::Result<()> {
     let got = plate::read(file);
     match got {
         Reading::Plate(p) => {
-            io::write_all(1, b"plate");
-            number(p.ports);
-            number(p.channels);
+            print!(rt; "plate")?;
+            number(rt, p.ports)?;
+            number(rt, p.channels)?;
         }
         Reading::Refused(x) => {
-            io::write_all(1, b"refused");
-            number(x.number as usize);
-            number(x.place as usize);
+            print!(rt; "refused")?;
+            number(rt, x.number as usize)?;
+            number(rt, x.place as usize)?;
         }
     }
-    number(plate::pairs(file, got).len());
-    io::write_all(1, b"\n");
+    number(rt, plate::pairs(file, got).len())?;
+    println!(rt; "")
 }
 
 // Tries the file whose length stands at `at`, and gives the place behind it.
-fn one(all: &[u8], at: usize) -> usize
+fn one(rt: &impl Print, all: &[u8], at: usize) -> io::Result<usize>
     requires { at < length all.now }
-    ensures { at < result }
+    ensures { IfOk result (λ next. at < next) }
 {
     let size = all.len();
     if size - at < 2 {
-        return size;
+        return Ok(size);
     }
     let n = wide8(all[at]) + 256 * wide8(all[at + 1]);
     let from = at + 2;
     if size - from < n {
-        return size;
+        return Ok(size);
     }
     let to = from + n;
-    answer(&all[from..to]);
-    to
+    answer(rt, &all[from..to])?;
+    Ok(to)
 }
 
-fn run(all: &[u8]) {
+fn run(rt: &impl Print, all: &[u8]) -> io::Result<()> {
     let mut at = 0;
     while at < all.len() {
-        at = one(all, at);
+        at = one(rt, all, at)?;
     }
+    Ok(())
 }
 
-fn main() {
-    let mut all = io::large_buffer();
-    let n = io::read_full(0, &mut all);
-    run(&all[..n]);
+fn main(rt: HostRuntime) -> io::Result<()> {
+    let mut all = [0u8; 65536];
+    let n = fill_from(&mut rt.reader(), &mut all)?;
+    run(&rt, &all[..n])
 }

@@ -1,7 +1,10 @@
 // Turn sheets to try: document 01's printed sheet, the same with port 0 turned, the triangle's, buffers exact, larger and one short, and a file for each refusal number. Prints what reading them answers, with the two buffers afterwards or with what judging answers.
+#![tactic(auto)]
+
 ghost use Rattle.std.specs.Prelude.{◌≤◌, ◌<◌};
 
 use sheet::Sheet;
+use std::io;
 
 // ---- files
 
@@ -44,114 +47,116 @@ fn two_faults() -> [u8; 44] {
 // ---- answers
 
 // Prints a space and a number.
-fn number(x: usize) {
-    io::write_all(1, b" ");
-    io::print_decimal(1, x as u64);
+fn number(rt: &impl Print, x: usize) -> io::Result<()> {
+    print!(rt; " {x}")
 }
 
 // Ends a line.
-fn end_line() {
-    io::write_all(1, b"\n");
+fn end_line(rt: &impl Print) -> io::Result<()> {
+    println!(rt; "")
 }
 
 // Prints a word and numbers on a line.
-fn numbers(word: &[u8], s: &[u16]) {
-    io::write_all(1, word);
-    let mut i = 0;
-    while i < s.len() {
-        number(s[i] as usize);
-        i += 1;
+fn numbers(rt: &impl Print, word: &str, s: &[u16]) -> io::Result<()> {
+    print!(rt; "{word}")?;
+    for x in s {
+        number(rt, *x as usize)?;
     }
-    end_line();
+    end_line(rt)
 }
 
 // Prints an answer on a line.
-fn answer(got: Sheet) {
+fn answer(rt: &impl Print, got: Sheet) -> io::Result<()> {
     match got {
         Sheet::Judged(c) => {
-            io::write_all(1, b"lands");
-            number(c.lands);
+            print!(rt; "lands")?;
+            number(rt, c.lands)?;
             if c.flat {
-                io::write_all(1, b" flat\n");
+                println!(rt; " flat")
             } else {
-                io::write_all(1, b" not flat\n");
+                println!(rt; " not flat")
             }
         }
         Sheet::Refused(x) => {
-            io::write_all(1, b"refused");
-            number(x.number as usize);
-            number(x.place as usize);
-            end_line();
+            print!(rt; "refused")?;
+            number(rt, x.number as usize)?;
+            number(rt, x.place as usize)?;
+            end_line(rt)
         }
     }
 }
 
 // Reads a sheet into d of 14 darts and l of 8 lengths that are all 7, and prints the answer and the buffers.
-fn read(file: &[u8], d: usize, l: usize)
+fn read(rt: &impl Print, file: &[u8], d: usize, l: usize) -> io::Result<()>
     requires { (d ≤ 14) × (l ≤ 8) }
 {
     let mut darts = [7u16; 14];
     let mut lengths = [7u16; 8];
-    answer(sheet::read_sheet(file, &mut darts[..d], &mut lengths[..l]));
-    numbers(b"darts", &darts);
-    numbers(b"lengths", &lengths);
+    answer(
+        rt,
+        sheet::read_sheet(file, &mut darts[..d], &mut lengths[..l]),
+    )?;
+    numbers(rt, "darts", &darts)?;
+    numbers(rt, "lengths", &lengths)
 }
 
 // Prints what reading and what judging a sheet answers.
-fn both(file: &[u8]) {
+fn both(rt: &impl Print, file: &[u8]) -> io::Result<()> {
     let mut darts = [7u16; 12];
     let mut lengths = [7u16; 6];
-    answer(sheet::read_sheet(file, &mut darts, &mut lengths));
-    answer(sheet::judge(file));
+    answer(rt, sheet::read_sheet(file, &mut darts, &mut lengths))?;
+    answer(rt, sheet::judge(file))
 }
 
 // ---- the cases
 
 // Sheets that are accepted, and buffers that are exact, larger and one short; with the last, a refusal that goes before 15.
-fn accepted() {
-    read(&four_ports(), 12, 6);
-    read(&four_ports(), 14, 8);
-    read(&four_ports(), 11, 6);
-    read(&four_ports(), 12, 5);
-    read(&turned(), 12, 6);
-    read(&triangle(), 6, 3);
-    read(&changed(36, 1), 11, 5);
-    both(&four_ports());
-    both(&turned());
+fn accepted(rt: &impl Print) -> io::Result<()> {
+    read(rt, &four_ports(), 12, 6)?;
+    read(rt, &four_ports(), 14, 8)?;
+    read(rt, &four_ports(), 11, 6)?;
+    read(rt, &four_ports(), 12, 5)?;
+    read(rt, &turned(), 12, 6)?;
+    read(rt, &triangle(), 6, 3)?;
+    read(rt, &changed(36, 1), 11, 5)?;
+    both(rt, &four_ports())?;
+    both(rt, &turned())
 }
 
 // A file for each of refusals 1 to 6.
-fn layout() {
-    both(b"FTS\x01\x00\x04\x06");
-    both(&changed(1, 80));
-    both(&changed(3, 2));
-    both(&changed(5, 2));
-    both(&changed(5, 201));
-    both(&changed(6, 2));
-    both(&changed(7, 3));
+fn layout(rt: &impl Print) -> io::Result<()> {
+    both(rt, b"FTS\x01\x00\x04\x06")?;
+    both(rt, &changed(1, 80))?;
+    both(rt, &changed(3, 2))?;
+    both(rt, &changed(5, 2))?;
+    both(rt, &changed(5, 201))?;
+    both(rt, &changed(6, 2))?;
+    both(rt, &changed(7, 3))?;
     both(
+        rt,
         b"FTS\x01\x00\x04\x06\x00\x00\x01\x00\x02\x00\x03\x01\x02\x01\x03\x02\x03\x02\x00\x08\x00\x04\x00\x07\x00\x00\x00\x0b\x00\x01\x00\x0a\x00\x06\x00\x05\x00\x03\x00\x09",
-    );
+    )?;
     both(
+        rt,
         b"FTS\x01\x00\x04\x06\x00\x00\x01\x00\x02\x00\x03\x01\x02\x01\x03\x02\x03\x02\x00\x08\x00\x04\x00\x07\x00\x00\x00\x0b\x00\x01\x00\x0a\x00\x06\x00\x05\x00\x03\x00\x09\x00\x00",
-    );
+    )
 }
 
 // A file for each of refusals 7 to 9 and 12 to 14.
-fn contents() {
-    both(&changed(11, 4));
-    both(&changed(13, 0));
-    both(&changed(14, 0));
-    both(&changed(15, 0));
-    both(&changed(30, 12));
-    both(&changed(31, 1));
-    both(&changed(26, 0));
-    both(&two_faults());
-    both(&changed(36, 1));
+fn contents(rt: &impl Print) -> io::Result<()> {
+    both(rt, &changed(11, 4))?;
+    both(rt, &changed(13, 0))?;
+    both(rt, &changed(14, 0))?;
+    both(rt, &changed(15, 0))?;
+    both(rt, &changed(30, 12))?;
+    both(rt, &changed(31, 1))?;
+    both(rt, &changed(26, 0))?;
+    both(rt, &two_faults())?;
+    both(rt, &changed(36, 1))
 }
 
-fn main() {
-    accepted();
-    layout();
-    contents();
+fn main(rt: HostRuntime) -> io::Result<()> {
+    accepted(&rt)?;
+    layout(&rt)?;
+    contents(&rt)
 }

@@ -1,0 +1,19 @@
+-- `try_calls::try_pairs` meets its contract: what the reader hands back are the file's pairs.
+-- Assumes nothing.
+use mathlib.Core.Path.{◌≡◌, ap, ◌∙◌}
+use mathlib.Core.List.{List}
+use Prim.Native.Nat.{ℕ}
+use lib.ListN.{length}
+use Rattle.rules.specs.Refusals.{pairs_of}
+use Rattle.plate.specs.State.{copied}
+use Rattle.plate.proofs.Laws.{part_is}
+use Rattle.try_calls.proofs.try_pairs.Goals as goal
+use Rattle.try_calls.proofs.try_pairs.Goals.{After-pairs-pairs}
+
+pairs : (c : After-pairs-pairs) → c.pairs-pairs.result.now ≡ pairs_of c.args.file.now
+pairs c = c.pairs-pairs.ensures ∙ part_is _ _ c.read-got.ensures
+
+pub returns : goal.returns
+returns c =
+    let old = c.args.ends.now in
+    record { count = ap length (pairs (goal.at.returns c).After-pairs-pairs); ends = c.copy_ends.ensures ∙ ap (λ (p : List ℕ). copied p old) (pairs (goal.at.returns c).After-pairs-pairs) }

@@ -1,9 +1,9 @@
 #!/usr/bin/env bash
 # Runs the listing program, of which no contract speaks, and ./list around it. Needs what tests/run has built by then:
-# target/bin/list, and target-tests/second, which gives the listings that are not stored.
+# the listing program, and target-tests/second, which gives the listings that are not stored.
 set -eu
 cd "$(dirname "$0")/.."
-. tests/x86.sh
+program=crates/list/out/list
 room=$(mktemp -d)
 trap 'rm -rf "$room"' EXIT
 
@@ -13,7 +13,7 @@ fail() { echo "tests/list.sh: $*"; exit 1; }
 
 # A plate file on standard input, called $1, is listed as the file $2 has it, on standard output and nowhere else.
 lists() {
-  run_proved target/bin/list > "$room/out" 2> "$room/err" || fail "the listing program ended with status $? on $1"
+  $program > "$room/out" 2> "$room/err" || fail "the listing program ended with status $? on $1"
   [ ! -s "$room/err" ] || fail "the listing program wrote to standard error, on $1"
   cmp -s "$room/out" "$2" || fail "the listing program lists $1 otherwise: $(diff "$room/out" "$2" | head -n 4)"
 }
@@ -48,7 +48,7 @@ for name, plate in [("longest", longest), *plates.items()]:
         (to / f"{name}-{size}").write_bytes(plate + random.Random(size).randbytes(size - len(plate)))
 END
 for plate in "$room"/plates/*; do
-  $RUN target-tests/second < "$plate" > "$room/listing"
+  target-tests/second < "$plate" > "$room/listing"
   lists "${plate##*/}" "$room/listing" < "$plate"
   drip "$plate" 997 2> /dev/null | lists "${plate##*/}, 997 bytes at a time" "$room/listing"
 done
@@ -91,6 +91,6 @@ list_says 2 "standard input can't be read" '' < examples
 (cd examples && ../list four.fpl) | cmp - examples/four.txt
 
 # It builds anew where a source is newer: here nothing has to be proved, and the program is no older than its sources afterwards.
-touch -d 2000-01-01 target/bin/list
+touch -d 2000-01-01 $program
 list_says 0 '' examples/four.txt $four
-[ target/bin/list -nt crates/list/src/main.rt ] || fail "./list did not build anew"
+[ $program -nt crates/list/src/main.rt ] || fail "./list did not build anew"

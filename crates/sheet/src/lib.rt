@@ -78,7 +78,8 @@ fn turns_in(file: &[u8]) -> [u16; Plate::MOST_DARTS]
 
 // ---- tests 12 to 15
 
-// Tests 12 to 14 of a sheet that passed tests 1 to 9.
+// Tests 12 to 14 of a sheet that passed tests 1 to 9. A call of its own, so that its arrays are off the stack before the lands are listed.
+#[inline(never)]
 fn file_turn_tests(file: &[u8]) -> Test
     requires { file_tests sheet_file file.now ≡ passed }
     ensures { test_of result ≡ turn_tests (ports_in sheet_file file.now) (ends_in sheet_file file.now) (turns_in sheet_file file.now) }

@@ -90,7 +90,9 @@ list_says 1 "$stuck" examples/five.txt < <(drip $five 7)
 list_says 2 "standard input can't be read" '' < examples
 (cd examples && ../list four.fpl) | cmp - examples/four.txt
 
-# It builds anew where a source is newer: here nothing has to be proved, and the program is no older than its sources afterwards.
+# It builds anew where a source is newer: once proved, nothing has to be proved, and the program is no older than its sources afterwards.
+touch -d 2000-01-01 $program
+./list $four > "$room/out" 2> "$room/err" && cmp -s "$room/out" examples/four.txt || fail "./list built anew otherwise: $(tail -n 3 "$room/err")"
 touch -d 2000-01-01 $program
 list_says 0 '' examples/four.txt $four
 [ $program -nt crates/list/src/main.rt ] || fail "./list did not build anew"

@@ -27,21 +27,15 @@ pairs : (c : After-pairs-pairs) → c.pairs-pairs.result.now ≡ pairs_of c.args
 pairs c = c.pairs-pairs.ensures ∙ part_is _ (Read c.args.p) c.requires.plate
 
 -- the parts that were lent
-most_lent : (c : After-lay_pairs-laid) → length (take (c.args.p.channels + 2 - c.args.p.ports) c.no_turns-lengths.result) ≡ c.args.p.channels + 2 - c.args.p.ports
-most_lent c =
-    let plate : Known c.args.file.now c.args.p = known _ (Read c.args.p) c.requires.plate _ refl in
-    let sized : (l : List ℕ) → most_darts ≡ length l → (2 * c.args.p.channels ≤ length l) × (c.args.p.channels + 2 - c.args.p.ports ≤ length l) = λ l e. (omega (arith, plate.most_channels_lem), omega (arith, plate.most_channels_lem)) in
-    length-take-le _ _ (sized c.no_turns-lengths.result c.no_turns-lengths.ensures.1).1
+most_lent : (c : After-lay_pairs-laid) → ((l : List ℕ) → most_darts ≡ length l → (2 * c.args.p.channels ≤ length l) × (c.args.p.channels + 2 - c.args.p.ports ≤ length l)) → length (take (c.args.p.channels + 2 - c.args.p.ports) c.no_turns-lengths.result) ≡ c.args.p.channels + 2 - c.args.p.ports
+most_lent c sized = length-take-le _ _ (sized c.no_turns-lengths.result c.no_turns-lengths.ensures.1).1
 
-turns_lent : (c : After-lay_pairs-laid) → length c.lay_pairs-laid.new.turns ≡ 2 * c.args.p.channels
-turns_lent c =
-    let plate : Known c.args.file.now c.args.p = known _ (Read c.args.p) c.requires.plate _ refl in
-    let sized : (l : List ℕ) → most_darts ≡ length l → (2 * c.args.p.channels ≤ length l) × (c.args.p.channels + 2 - c.args.p.ports ≤ length l) = λ l e. (omega (arith, plate.most_channels_lem), omega (arith, plate.most_channels_lem)) in
-    c.lay_pairs-laid.auto.turns ∙ length-take-le _ _ (sized c.no_turns-turns.result c.no_turns-turns.ensures.1).0
+turns_lent : (c : After-lay_pairs-laid) → ((l : List ℕ) → most_darts ≡ length l → (2 * c.args.p.channels ≤ length l) × (c.args.p.channels + 2 - c.args.p.ports ≤ length l)) → length c.lay_pairs-laid.new.turns ≡ 2 * c.args.p.channels
+turns_lent c sized = c.lay_pairs-laid.auto.turns ∙ length-take-le _ _ (sized c.no_turns-turns.result c.no_turns-turns.ensures.1).0
 
 -- the array of the turns begins with them
-turns_front : (c : After-lay_pairs-laid) → take (2 * c.args.p.channels) (c.lay_pairs-laid.new.turns ++ drop (2 * c.args.p.channels) c.no_turns-turns.result) ≡ c.lay_pairs-laid.new.turns
-turns_front c = take_at _ _ _ (turns_lent c)
+turns_front : (c : After-lay_pairs-laid) → ((l : List ℕ) → most_darts ≡ length l → (2 * c.args.p.channels ≤ length l) × (c.args.p.channels + 2 - c.args.p.ports ≤ length l)) → take (2 * c.args.p.channels) (c.lay_pairs-laid.new.turns ++ drop (2 * c.args.p.channels) c.no_turns-turns.result) ≡ c.lay_pairs-laid.new.turns
+turns_front c sized = take_at _ _ _ (turns_lent c sized)
 
 pub overflow_mul-darts : goal.overflow_mul-darts
 overflow_mul-darts c = omega (arith, (plate (goal.at.overflow_mul-darts c).Start).most_channels_lem)
@@ -71,26 +65,36 @@ pub slice_bounds-lay_pairs-end-3 : goal.slice_bounds-lay_pairs-end-3
 slice_bounds-lay_pairs-end-3 c = sym (length-take-le _ _ (sized (goal.at.slice_bounds-lay_pairs-end-3 c).Start c.no_turns-lengths.result c.no_turns-lengths.ensures.1).1)
 
 pub lay_pairs-laid-requires : goal.lay_pairs-laid-requires
-lay_pairs-laid-requires c = fits _ _ (plate (goal.at.lay_pairs-laid-requires c).Start) _ _ (pairs (goal.at.lay_pairs-laid-requires c).After-pairs-pairs) _ _ _ (length-take-le _ _ (sized (goal.at.lay_pairs-laid-requires c).Start c.no_turns-turns.result c.no_turns-turns.ensures.1).0) (length-take-le _ _ (sized (goal.at.lay_pairs-laid-requires c).Start c.no_turns-lands.result c.no_turns-lands.ensures.1).0) (length-take-le _ _ (sized (goal.at.lay_pairs-laid-requires c).Start c.no_turns-lengths.result c.no_turns-lengths.ensures.1).1)
+lay_pairs-laid-requires c =
+    let was = goal.at.lay_pairs-laid-requires c in
+    fits _ _ (plate was.Start) _ _ (pairs was.After-pairs-pairs) _ _ _ (length-take-le _ _ (sized was.Start c.no_turns-turns.result c.no_turns-turns.ensures.1).0) (length-take-le _ _ (sized was.Start c.no_turns-lands.result c.no_turns-lands.ensures.1).0) (length-take-le _ _ (sized was.Start c.no_turns-lengths.result c.no_turns-lengths.ensures.1).1)
 
 pub stuck_at-requires : goal.stuck_at-requires
-stuck_at-requires c = omega (arith, stuck_small _ _ (plate (goal.at.stuck_at-requires c).Start) _ (pairs (goal.at.stuck_at-requires c).After-pairs-pairs) _ _ _ _ _ c.lay_pairs-laid.ensures (most_lent (goal.at.stuck_at-requires c).After-lay_pairs-laid) _ _ c.in-Stuck.is)
+stuck_at-requires c =
+    let was = goal.at.stuck_at-requires c in
+    omega (arith, stuck_small _ _ (plate was.Start) _ (pairs was.After-pairs-pairs) _ _ _ _ _ c.lay_pairs-laid.ensures (most_lent was.After-lay_pairs-laid (sized was.Start)) _ _ c.in-Stuck.is)
 
 pub returns-in-Stuck : goal.returns-in-Stuck
 returns-in-Stuck c =
-    let w = stuck_all _ _ (plate (goal.at.returns-in-Stuck c).Start) _ (pairs (goal.at.returns-in-Stuck c).After-pairs-pairs) _ _ _ _ _ c.lay_pairs-laid.ensures (most_lent (goal.at.returns-in-Stuck c).After-lay_pairs-laid) c.args.out.now c.requires.room _ _ c.in-Stuck.is _ c.stuck_at.ensures in
+    let was = goal.at.returns-in-Stuck c in
+    let w = stuck_all _ _ (plate was.Start) _ (pairs was.After-pairs-pairs) _ _ _ _ _ c.lay_pairs-laid.ensures (most_lent was.After-lay_pairs-laid (sized was.Start)) c.args.out.now c.requires.room _ _ c.in-Stuck.is _ c.stuck_at.ensures in
     record { answer = w.0; sheet = w.1 }
 
 pub slice_bounds-turns-end-2 : goal.slice_bounds-turns-end-2
-slice_bounds-turns-end-2 c = simp length-append (omega (arith, turns_lent (goal.at.slice_bounds-turns-end-2 c).After-lay_pairs-laid))
+slice_bounds-turns-end-2 c = simp length-append (omega (arith, turns_lent (goal.at.slice_bounds-turns-end-2 c).After-lay_pairs-laid (sized (goal.at.slice_bounds-turns-end-2 c).Start)))
 
 pub slice_bounds-put_sheet-end : goal.slice_bounds-put_sheet-end
-slice_bounds-put_sheet-end c = sym (ap length (turns_front (goal.at.slice_bounds-put_sheet-end c).After-lay_pairs-laid) ∙ turns_lent (goal.at.slice_bounds-put_sheet-end c).After-lay_pairs-laid)
+slice_bounds-put_sheet-end c =
+    let was = goal.at.slice_bounds-put_sheet-end c in
+    sym (ap length (turns_front was.After-lay_pairs-laid (sized was.Start)) ∙ turns_lent was.After-lay_pairs-laid (sized was.Start))
 
 pub put_sheet-requires : goal.put_sheet-requires
-put_sheet-requires c = record { pairs = ap length (pairs (goal.at.put_sheet-requires c).After-pairs-pairs) ∙ pairs_length _ _ (plate (goal.at.put_sheet-requires c).Start); turns = ap length (turns_front (goal.at.put_sheet-requires c).After-lay_pairs-laid) ∙ turns_lent (goal.at.put_sheet-requires c).After-lay_pairs-laid; room = c.requires.room }
+put_sheet-requires c =
+    let was = goal.at.put_sheet-requires c in
+    record { pairs = ap length (pairs was.After-pairs-pairs) ∙ pairs_length _ _ (plate was.Start); turns = ap length (turns_front was.After-lay_pairs-laid (sized was.Start)) ∙ turns_lent was.After-lay_pairs-laid (sized was.Start); room = c.requires.room }
 
 pub returns : goal.returns
 returns c =
-    let w = flat_all _ _ (plate (goal.at.returns c).Start) _ (pairs (goal.at.returns c).After-pairs-pairs) _ _ _ _ _ c.lay_pairs-laid.ensures (most_lent (goal.at.returns c).After-lay_pairs-laid) c.args.out.now c.requires.room (unstuck_of c.lay_pairs-laid.result c.in_default.not-Stuck) _ _ (turns_front (goal.at.returns c).After-lay_pairs-laid) c.put_sheet.ensures in
+    let was = goal.at.returns c in
+    let w = flat_all _ _ (plate was.Start) _ (pairs was.After-pairs-pairs) _ _ _ _ _ c.lay_pairs-laid.ensures (most_lent was.After-lay_pairs-laid (sized was.Start)) c.args.out.now c.requires.room (unstuck_of c.lay_pairs-laid.result c.in_default.not-Stuck) _ _ (turns_front was.After-lay_pairs-laid (sized was.Start)) c.put_sheet.ensures in
     record { answer = w.0; sheet = w.1 }

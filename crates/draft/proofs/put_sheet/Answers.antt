@@ -15,45 +15,47 @@ room : (c : Start) → (8 + 6 * c.args.p.channels ≤ length c.args.out.now) × 
 room c = (omega (arith, length_sheet c.args.p.channels, c.requires.room), c.requires.pairs, c.requires.turns)
 
 -- and so it is after the head was put, and after the pairs were
-headed : (c : After-put_head) → 8 ≤ length c.put_head.new.out
-headed c =
-    let room : (8 + 6 * c.args.p.channels ≤ length c.args.out.now) × (length c.args.pairs.now ≡ 2 * c.args.p.channels) × (length c.args.turns.now ≡ 2 * c.args.p.channels) = (omega (arith, length_sheet c.args.p.channels, c.requires.room), c.requires.pairs, c.requires.turns) in
-    omega (arith, c.put_head.auto.out, room.0)
+headed : (c : After-put_head) → ((8 + 6 * c.args.p.channels ≤ length c.args.out.now) × (length c.args.pairs.now ≡ 2 * c.args.p.channels) × (length c.args.turns.now ≡ 2 * c.args.p.channels)) → 8 ≤ length c.put_head.new.out
+headed c room = omega (arith, c.put_head.auto.out, room.0)
 
-paired : (c : After-put_pairs) → length (let x = c.put_head.new.out in
+paired : (c : After-put_pairs) → (8 ≤ length c.put_head.new.out) → length (let x = c.put_head.new.out in
     take 8 x ++ (c.put_pairs.new.part ++ drop (length x - 8) (drop 8 x))) ≡ length c.args.out.now
-paired c =
-    let room : (8 + 6 * c.args.p.channels ≤ length c.args.out.now) × (length c.args.pairs.now ≡ 2 * c.args.p.channels) × (length c.args.turns.now ≡ 2 * c.args.p.channels) = (omega (arith, length_sheet c.args.p.channels, c.requires.room), c.requires.pairs, c.requires.turns) in
-    let headed : 8 ≤ length c.put_head.new.out = omega (arith, c.put_head.auto.out, room.0) in
-    behind_size c.put_head.new.out c.put_pairs.new.part 8 headed c.put_pairs.auto.part ∙ c.put_head.auto.out
+paired c headed = behind_size c.put_head.new.out c.put_pairs.new.part 8 headed c.put_pairs.auto.part ∙ c.put_head.auto.out
 
 pub put_head-requires : goal.put_head-requires
 put_head-requires c = omega (arith, pairs_start, room (goal.at.put_head-requires c).Start)
 
 pub slice_bounds-put_pairs-count : goal.slice_bounds-put_pairs-count
-slice_bounds-put_pairs-count c = headed (goal.at.slice_bounds-put_pairs-count c).After-put_head
+slice_bounds-put_pairs-count c = headed (goal.at.slice_bounds-put_pairs-count c).After-put_head (room (goal.at.slice_bounds-put_pairs-count c).Start)
 
 pub slice_bounds-put_pairs-start : goal.slice_bounds-put_pairs-start
-slice_bounds-put_pairs-start c = headed (goal.at.slice_bounds-put_pairs-start c).After-put_head
+slice_bounds-put_pairs-start c = headed (goal.at.slice_bounds-put_pairs-start c).After-put_head (room (goal.at.slice_bounds-put_pairs-start c).Start)
 
 pub put_pairs-requires : goal.put_pairs-requires
-put_pairs-requires c = omega (arith, part_size c.put_head.new.out 8 (headed (goal.at.put_pairs-requires c).After-put_head), c.put_head.auto.out, room (goal.at.put_pairs-requires c).Start)
+put_pairs-requires c =
+    let was = goal.at.put_pairs-requires c in
+    omega (arith, part_size c.put_head.new.out 8 (headed was.After-put_head (room was.Start)), c.put_head.auto.out, room was.Start)
 
 pub slice_bounds-put_turns-count : goal.slice_bounds-put_turns-count
-slice_bounds-put_turns-count c = omega (arith, paired (goal.at.slice_bounds-put_turns-count c).After-put_pairs, room (goal.at.slice_bounds-put_turns-count c).Start)
+slice_bounds-put_turns-count c =
+    let was = goal.at.slice_bounds-put_turns-count c in
+    omega (arith, paired was.After-put_pairs (headed was.After-put_head (room was.Start)), room was.Start)
 
 pub slice_bounds-put_turns-start : goal.slice_bounds-put_turns-start
-slice_bounds-put_turns-start c = omega (arith, paired (goal.at.slice_bounds-put_turns-start c).After-put_pairs, room (goal.at.slice_bounds-put_turns-start c).Start)
+slice_bounds-put_turns-start c =
+    let was = goal.at.slice_bounds-put_turns-start c in
+    omega (arith, paired was.After-put_pairs (headed was.After-put_head (room was.Start)), room was.Start)
 
 pub put_turns-requires : goal.put_turns-requires
 put_turns-requires c =
+    let was = goal.at.put_turns-requires c in
     let n = 8 + length c.args.pairs.now in
     omega (
       arith,
       part_size (let x = c.put_head.new.out in
-          take 8 x ++ (c.put_pairs.new.part ++ drop (length x - 8) (drop 8 x))) n (omega (arith, paired (goal.at.put_turns-requires c).After-put_pairs, room (goal.at.put_turns-requires c).Start)),
-      paired (goal.at.put_turns-requires c).After-put_pairs,
-      room (goal.at.put_turns-requires c).Start,
+          take 8 x ++ (c.put_pairs.new.part ++ drop (length x - 8) (drop 8 x))) n (omega (arith, paired was.After-put_pairs (headed was.After-put_head (room was.Start)), room was.Start)),
+      paired was.After-put_pairs (headed was.After-put_head (room was.Start)),
+      room was.Start,
     )
 
 pub returns : goal.returns

@@ -23,23 +23,20 @@ channel : (c : Start) → 2 * c.args.k + 1 < length c.args.ends.now
 channel c = omega (arith, (sized c).channels, at_lt c.args.play.now c.args.k (rw c.requires.channel tt))
 
 -- what is touched starts empty
-emptied : (c : After-mark_all) → c.mark_all.new.marks ≡ replicate (length c.args.laid.now) false
-emptied c =
-    let lent : Lent (length c.args.laid.now) c.args.marks.now c.args.queue.now c.args.touched.now c.args.contacts.now = c.requires.lent in
-    c.mark_all.ensures ∙ ap (λ (n : ℕ). replicate n false) lent.of_touched
+emptied : (c : After-mark_all) → (Lent (length c.args.laid.now) c.args.marks.now c.args.queue.now c.args.touched.now c.args.contacts.now) → c.mark_all.new.marks ≡ replicate (length c.args.laid.now) false
+emptied c lent = c.mark_all.ensures ∙ ap (λ (n : ℕ). replicate n false) lent.of_touched
 
-touched : (c : After-touch_from) → c.touch_from.new.touched
+touched : (c : After-touch_from) → (c.mark_all.new.marks ≡ replicate (length c.args.laid.now) false) → c.touch_from.new.touched
     ≡ touch_from c.args.ends.now c.args.play.now c.args.laid.now (take c.spread-n.result c.spread-n.new.queue) (replicate (length c.args.laid.now) false)
-touched c =
-    let lent : Lent (length c.args.laid.now) c.args.marks.now c.args.queue.now c.args.touched.now c.args.contacts.now = c.requires.lent in
-    let emptied : c.mark_all.new.marks ≡ replicate (length c.args.laid.now) false = c.mark_all.ensures ∙ ap (λ (n : ℕ). replicate n false) lent.of_touched in
-    c.touch_from.ensures ∙ ap (touch_from _ _ _ _) emptied
+touched c emptied = c.touch_from.ensures ∙ ap (touch_from _ _ _ _) emptied
 
 pub spread-n-requires : goal.spread-n-requires
 spread-n-requires c = record { wired = c.requires.wired; places = (lent (goal.at.spread-n-requires c).Start).of_queue; small = (lent (goal.at.spread-n-requires c).Start).small; shut = c.requires.shut; channel = c.requires.channel; unmarked = c.requires.unmarked }
 
 pub both_ends-requires : goal.both_ends-requires
-both_ends-requires c = record { channel = channel (goal.at.both_ends-requires c).Start; room = omega (arith, (lent (goal.at.both_ends-requires c).Start).of_contacts, two_ports _ _ _ _ (sized (goal.at.both_ends-requires c).Start) _ _ _ _ _ c.spread-n.ensures c.requires.wired.loopless c.requires.channel) }
+both_ends-requires c =
+    let was = goal.at.both_ends-requires c in
+    record { channel = channel was.Start; room = omega (arith, (lent was.Start).of_contacts, two_ports _ _ _ _ (sized was.Start) _ _ _ _ _ c.spread-n.ensures c.requires.wired.loopless c.requires.channel) }
 
 pub returns-then-n-eq0 : goal.returns-then-n-eq0
 returns-then-n-eq0 c =
@@ -47,14 +44,18 @@ returns-then-n-eq0 c =
     single_left _ _ _ _ (sized (goal.at.returns-then-n-eq0 c).Start) _ _ _ _ _ c.spread-n.ensures c.requires.wired.loopless c.requires.channel c.if-n-eq0.true _ _ e.0 e.1
 
 pub touch_from-requires : goal.touch_from-requires
-touch_from-requires c = record { sized = sized (goal.at.touch_from-requires c).Start; tables = c.requires.wired.tables; touched = ap length (emptied (goal.at.touch_from-requires c).After-mark_all) ∙ length-replicate (length c.args.laid.now) false; most = c.spread-n.ensures.most; ports = spread_ports _ _ _ _ (sized (goal.at.touch_from-requires c).Start) _ _ _ _ _ c.spread-n.ensures }
+touch_from-requires c =
+    let was = goal.at.touch_from-requires c in
+    record { sized = sized was.Start; tables = c.requires.wired.tables; touched = ap length (emptied was.After-mark_all (lent was.Start)) ∙ length-replicate (length c.args.laid.now) false; most = c.spread-n.ensures.most; ports = spread_ports _ _ _ _ (sized was.Start) _ _ _ _ _ c.spread-n.ensures }
 
 pub collect-requires : goal.collect-requires
 collect-requires c =
-    let e = ap length (touched (goal.at.collect-requires c).After-touch_from) ∙ length_touch_from _ _ _ _ _ ∙ length-replicate (length c.args.laid.now) false in
-    record { room = omega (arith, e, (lent (goal.at.collect-requires c).Start).of_contacts); small = omega (arith, e, (lent (goal.at.collect-requires c).Start).small) }
+    let was = goal.at.collect-requires c in
+    let e = ap length (touched was.After-touch_from (emptied was.After-mark_all (lent was.Start))) ∙ length_touch_from _ _ _ _ _ ∙ length-replicate (length c.args.laid.now) false in
+    record { room = omega (arith, e, (lent was.Start).of_contacts); small = omega (arith, e, (lent was.Start).small) }
 
 pub returns : goal.returns
 returns c =
+    let was = goal.at.returns c in
     let e = c.collect.ensures in
-    rooted_left _ _ _ _ (sized (goal.at.returns c).Start) _ _ _ _ _ c.spread-n.ensures c.if-n-eq0.false _ _ _ (touched (goal.at.returns c).After-touch_from) e.0 e.1
+    rooted_left _ _ _ _ (sized was.Start) _ _ _ _ _ c.spread-n.ensures c.if-n-eq0.false _ _ _ (touched was.After-touch_from (emptied was.After-mark_all (lent was.Start))) e.0 e.1

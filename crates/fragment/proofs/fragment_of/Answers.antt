@@ -20,12 +20,9 @@ over_laid c =
     subst (λ (m : List Bool). Spread (length c.args.laid.now) c.args.ends.now c.args.play.now c.args.laid.now c.args.k m c.spread.new.marks c.spread.new.queue c.spread.result)
     c.copy.ensures c.spread.ensures
 
-ports : (c : After-inner_ports) → c.inner_ports.new.inside ≡ (fragment_at (length c.args.laid.now) c.args.ends.now c.args.play.now c.args.laid.now c.args.k).ports
-ports c =
-    let over_laid : Spread (length c.args.laid.now) c.args.ends.now c.args.play.now c.args.laid.now c.args.k
-    c.args.laid.now c.spread.new.marks c.spread.new.queue c.spread.result = subst (λ (m : List Bool). Spread (length c.args.laid.now) c.args.ends.now c.args.play.now c.args.laid.now c.args.k m c.spread.new.marks c.spread.new.queue c.spread.result)
-    c.copy.ensures c.spread.ensures in
-    c.inner_ports.ensures ∙ inner_is _ _ _ _ refl _ _ _ _ over_laid
+ports : (c : After-inner_ports) → (Spread (length c.args.laid.now) c.args.ends.now c.args.play.now c.args.laid.now c.args.k
+    c.args.laid.now c.spread.new.marks c.spread.new.queue c.spread.result) → c.inner_ports.new.inside ≡ (fragment_at (length c.args.laid.now) c.args.ends.now c.args.play.now c.args.laid.now c.args.k).ports
+ports c over_laid = c.inner_ports.ensures ∙ inner_is _ _ _ _ refl _ _ _ _ over_laid
 
 long : (c : After-inner_ports) → length c.inner_ports.new.inside ≡ length c.args.laid.now
 long c = c.inner_ports.auto.inside ∙ c.requires.inside
@@ -37,4 +34,6 @@ pub own_channels-requires : goal.own_channels-requires
 own_channels-requires c = record { sized = subst (λ (v : ℕ). Sized v c.args.ends.now c.args.play.now) (sym (long (goal.at.own_channels-requires c).After-inner_ports)) c.requires.wired.sized; own = c.requires.own }
 
 pub returns : goal.returns
-returns c = record { inside = ports (goal.at.returns c).After-inner_ports; own = own_as _ _ c.args.ends.now c.args.play.now _ _ _ (long (goal.at.returns c).After-inner_ports) (fragment_is _ _ _ _ _ _ (ports (goal.at.returns c).After-inner_ports)) c.own_channels.ensures }
+returns c =
+    let was = goal.at.returns c in
+    record { inside = ports was.After-inner_ports (over_laid was.After-spread); own = own_as _ _ c.args.ends.now c.args.play.now _ _ _ (long was.After-inner_ports) (fragment_is _ _ _ _ _ _ (ports was.After-inner_ports (over_laid was.After-spread))) c.own_channels.ensures }

@@ -11,18 +11,16 @@ use Rattle.rules.specs.Terms.{leaves}
 use Rattle.rules.specs.Laying.{laid_ports}
 use Rattle.fragment.proofs.Turning.{covering_start, covering_step, covering_end}
 use Rattle.fragment.proofs.laid_ports.Goals as goal
-use Rattle.fragment.proofs.laid_ports.Goals.{After-wide-p, At-loop-d, then-is_laid, else-is_laid}
+use Rattle.fragment.proofs.laid_ports.Goals.{After-wide-p, At-loop-d, else-is_laid, then-is_laid}
 
 -- `mark_all` keeps the number of ports
 kept : (c : At-loop-d) → length c.mark_all.new.marks ≡ length c.args.laid.now
 kept c = ap length c.mark_all.ensures ∙ length-replicate (length c.args.laid.now) false
 
 -- the port that the dart leaves
-inside : (c : After-wide-p) → c.wide-p.result < length c.loop-d.laid
+inside : (c : After-wide-p) → (length c.mark_all.new.marks ≡ length c.args.laid.now) → c.wide-p.result < length c.loop-d.laid
 unfolding leaves
-inside c =
-    let kept : length c.mark_all.new.marks ≡ length c.args.laid.now = ap length c.mark_all.ensures ∙ length-replicate (length c.args.laid.now) false in
-    omega (arith, c.requires.ports c.loop-d.d (omega arith), kept, c.loop-d.invariant.size)
+inside c kept = omega (arith, c.requires.ports c.loop-d.d (omega arith), kept, c.loop-d.invariant.size)
 
 pub loop-d-init : goal.loop-d-init
 loop-d-init c =
@@ -30,7 +28,7 @@ loop-d-init c =
     covering_start _ _ _ _ (e ∙ ap (λ (n : ℕ). replicate n false) (sym (ap length e ∙ length-replicate (length c.args.laid.now) false)))
 
 pub bounds-laid-p : goal.bounds-laid-p
-bounds-laid-p c = inside c
+bounds-laid-p c = inside c (kept (goal.at.bounds-laid-p c).At-loop-d)
 
 pub loop-d-preserved : goal.loop-d-preserved
 unfolding leaves

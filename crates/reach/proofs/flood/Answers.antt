@@ -55,5 +55,6 @@ shape_of-queue c = omega (arith, c.loop-head.invariant.room.places, long (goal.a
 
 pub returns : goal.returns
 returns c =
-    subst (λ (m : List Bool). Flooded c.args.ends.now c.args.play.now m c.args.queue.now c.args.p c.loop-head.marks c.loop-head.queue c.loop-head.n) (same (goal.at.returns c).At-loop-head)
-    (end _ _ _ _ _ _ _ _ _ _ (sized (goal.at.returns c).At-loop-head) (inside (goal.at.returns c).At-loop-head) c.loop-head.invariant (omega arith) c.args.queue.now _ refl (omega arith))
+    let was = goal.at.returns c in
+    subst (λ (m : List Bool). Flooded c.args.ends.now c.args.play.now m c.args.queue.now c.args.p c.loop-head.marks c.loop-head.queue c.loop-head.n) (same was.At-loop-head)
+    (end _ _ _ _ _ _ _ _ _ _ (sized was.At-loop-head) (inside was.At-loop-head) c.loop-head.invariant (omega arith) c.args.queue.now _ refl (omega arith))

@@ -25,22 +25,16 @@ port : (c : After-wide-q) → c.wide-q.result ≡ enters c.args.ends.now c.args.
 unfolding enters
 port c = c.wide-q.ensures.0 ∙ ap (λ (i : ℕ). get_or c.args.ends.now i 0) c.reverse-e.ensures
 
-inside : (c : After-wide-q) → c.wide-q.result < length c.args.marks.now
-inside c =
-    let ported : enters c.args.ends.now c.args.d < length c.args.marks.now = enters_in _ _ _ c.requires.sized c.args.d c.requires.dart in
-    omega (arith, port c, ported)
+inside : (c : After-wide-q) → (enters c.args.ends.now c.args.d < length c.args.marks.now) → c.wide-q.result < length c.args.marks.now
+inside c ported = omega (arith, port c, ported)
 
 -- where it has no mark
-unmarked : (c : Else-marks-q) → at c.args.marks.now (enters c.args.ends.now c.args.d) ≡ false
+unmarked : (c : Else-marks-q) → (c.wide-q.result ≡ enters c.args.ends.now c.args.d) → at c.args.marks.now (enters c.args.ends.now c.args.d) ≡ false
 unfolding at enters
-unmarked c =
-    let port : c.wide-q.result ≡ enters c.args.ends.now c.args.d = c.wide-q.ensures.0 ∙ ap (λ (i : ℕ). get_or c.args.ends.now i 0) c.reverse-e.ensures in
-    ap (λ (i : ℕ). get_or c.args.marks.now i false) (sym port) ∙ c.if-marks-q.false
+unmarked c port = ap (λ (i : ℕ). get_or c.args.marks.now i false) (sym port) ∙ c.if-marks-q.false
 
-room : (c : Else-marks-q) → c.args.n < length c.args.queue.now
-room c =
-    let ported : enters c.args.ends.now c.args.d < length c.args.marks.now = enters_in _ _ _ c.requires.sized c.args.d c.requires.dart in
-    room_left c.args.marks.now c.args.queue.now c.args.n (enters c.args.ends.now c.args.d) c.requires.room ported (rw (unmarked c) tt)
+room : (c : Else-marks-q) → (enters c.args.ends.now c.args.d < length c.args.marks.now) → (c.wide-q.result ≡ enters c.args.ends.now c.args.d) → c.args.n < length c.args.queue.now
+room c ported port = room_left c.args.marks.now c.args.queue.now c.args.n (enters c.args.ends.now c.args.d) c.requires.room ported (rw (unmarked c port) tt)
 
 pub bounds-play-k : goal.bounds-play-k
 bounds-play-k c = omega (arith, c.requires.sized.channels)
@@ -56,7 +50,7 @@ pub bounds-ends-e : goal.bounds-ends-e
 bounds-ends-e c = omega (arith, turned (goal.at.bounds-ends-e c).Start)
 
 pub bounds-marks-q : goal.bounds-marks-q
-bounds-marks-q c = inside (goal.at.bounds-marks-q c).After-wide-q
+bounds-marks-q c = inside (goal.at.bounds-marks-q c).After-wide-q (ported (goal.at.bounds-marks-q c).Start)
 
 pub returns-then-marks-q : goal.returns-then-marks-q
 unfolding at
@@ -65,10 +59,12 @@ returns-then-marks-q c =
     (meet_old c.args.ends.now c.args.play.now c.args.d (met_in c.args.marks.now c.args.queue.now c.args.n) (on _ (ap not c.if-not-play-k.false)) (ap (λ (i : ℕ). get_or c.args.marks.now i false) (sym (port (goal.at.returns-then-marks-q c).After-wide-q)) ∙ c.if-marks-q.true))
 
 pub bounds-marks-q-2 : goal.bounds-marks-q-2
-bounds-marks-q-2 c = inside (goal.at.bounds-marks-q-2 c).After-wide-q
+bounds-marks-q-2 c = inside (goal.at.bounds-marks-q-2 c).After-wide-q (ported (goal.at.bounds-marks-q-2 c).Start)
 
 pub bounds-queue-n : goal.bounds-queue-n
-bounds-queue-n c = room (goal.at.bounds-queue-n c).Else-marks-q
+bounds-queue-n c =
+    let was = goal.at.bounds-queue-n c in
+    room was.Else-marks-q (ported was.Start) (port was.After-wide-q)
 
 pub shape_of-marks : goal.shape_of-marks
 shape_of-marks c = simp length-set
@@ -79,6 +75,7 @@ shape_of-queue c = simp length-set
 pub returns : goal.returns
 unfolding at
 returns c =
-    rw (c.narrow.ensures, port (goal.at.returns c).After-wide-q)
-    (held_new c.args.marks.now c.args.queue.now c.args.n (enters c.args.ends.now c.args.d) _ (room (goal.at.returns c).Else-marks-q)
-    (meet_new c.args.ends.now c.args.play.now c.args.d (met_in c.args.marks.now c.args.queue.now c.args.n) (on _ (ap not c.if-not-play-k.false)) (unmarked (goal.at.returns c).Else-marks-q)))
+    let was = goal.at.returns c in
+    rw (c.narrow.ensures, port was.After-wide-q)
+    (held_new c.args.marks.now c.args.queue.now c.args.n (enters c.args.ends.now c.args.d) _ (room was.Else-marks-q (ported was.Start) (port was.After-wide-q))
+    (meet_new c.args.ends.now c.args.play.now c.args.d (met_in c.args.marks.now c.args.queue.now c.args.n) (on _ (ap not c.if-not-play-k.false)) (unmarked was.Else-marks-q (port was.After-wide-q))))

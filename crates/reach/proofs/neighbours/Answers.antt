@@ -23,11 +23,8 @@ port : (c : After-wide-p) → c.wide-p.result ≡ leaves c.args.ends.now (c.loop
 unfolding leaves
 port c = c.wide-p.ensures.0
 
-port_in : (c : After-wide-p) → c.wide-p.result < length c.loop-d.first
-port_in c =
-    let kept : length c.fill.new.s ≡ length c.args.first.now = c.fill.auto.s in
-    let inside : 0 < c.loop-d.d → leaves c.args.ends.now (c.loop-d.d - 1) < length c.fill.new.s = λ h. omega (arith, c.requires.ports (c.loop-d.d - 1) (omega (arith, c.loop-d.invariant.most)), kept) in
-    omega (arith, port c, inside (omega arith), c.loop-d.invariant.ports)
+port_in : (c : After-wide-p) → (0 < c.loop-d.d → leaves c.args.ends.now (c.loop-d.d - 1) < length c.fill.new.s) → c.wide-p.result < length c.loop-d.first
+port_in c inside = omega (arith, port c, inside (omega arith), c.loop-d.invariant.ports)
 
 pub loop-d-init : goal.loop-d-init
 loop-d-init c =
@@ -44,7 +41,7 @@ pub bounds-ends-d : goal.bounds-ends-d
 bounds-ends-d c = omega (arith, c.loop-d.invariant.most)
 
 pub bounds-first-p : goal.bounds-first-p
-bounds-first-p c = port_in (goal.at.bounds-first-p c).After-wide-p
+bounds-first-p c = port_in (goal.at.bounds-first-p c).After-wide-p (inside (goal.at.bounds-first-p c).At-loop-d)
 
 pub offset_bounds-more-d : goal.offset_bounds-more-d
 offset_bounds-more-d c = omega (arith, c.loop-d.invariant.most)
@@ -56,7 +53,7 @@ pub narrow-requires-in-loop-d : goal.narrow-requires-in-loop-d
 narrow-requires-in-loop-d c = omega (arith, c.loop-d.invariant.most)
 
 pub bounds-first-p-in-loop-d : goal.bounds-first-p-in-loop-d
-bounds-first-p-in-loop-d c = port_in (goal.at.bounds-first-p-in-loop-d c).After-wide-p
+bounds-first-p-in-loop-d c = port_in (goal.at.bounds-first-p-in-loop-d c).After-wide-p (inside (goal.at.bounds-first-p-in-loop-d c).At-loop-d)
 
 pub loop-d-preserved : goal.loop-d-preserved
 loop-d-preserved c = step_as _ _ _ _ _ _ _ c.loop-d.invariant (omega arith) (inside (goal.at.loop-d-preserved c).At-loop-d (omega arith)) (port (goal.at.loop-d-preserved c).After-wide-p) c.narrow-in-loop-d.ensures

@@ -15,10 +15,8 @@ use Rattle.reach.proofs.spread.Goals.{After-wide-d-in-loop-d, Start}
 tables : (c : Start) → Tables (length c.args.marks.now) c.args.ends.now c.args.first.now c.args.more.now
 tables c = c.requires.tables
 
-next : (c : After-wide-d-in-loop-d) → c.wide-d-in-loop-d.result ≡ more_dart c.args.ends.now c.loop-d.d
-next c =
-    let tables : Tables (length c.args.marks.now) c.args.ends.now c.args.first.now c.args.more.now = c.requires.tables in
-    c.wide-d-in-loop-d.ensures.0 ∙ more_read _ _ _ _ tables c.loop-d.d (omega arith)
+next : (c : After-wide-d-in-loop-d) → (Tables (length c.args.marks.now) c.args.ends.now c.args.first.now c.args.more.now) → c.wide-d-in-loop-d.result ≡ more_dart c.args.ends.now c.loop-d.d
+next c tables = c.wide-d-in-loop-d.ensures.0 ∙ more_read _ _ _ _ tables c.loop-d.d (omega arith)
 
 pub offset_bounds-first-p : goal.offset_bounds-first-p
 offset_bounds-first-p c = omega (arith, first_long _ _ _ _ (tables (goal.at.offset_bounds-first-p c).Start))
@@ -36,10 +34,10 @@ pub bounds-more-d : goal.bounds-more-d
 bounds-more-d c = omega (arith, more_long _ _ _ _ (tables (goal.at.bounds-more-d c).Start))
 
 pub loop-d-smaller : goal.loop-d-smaller
-loop-d-smaller c = omega (arith, next c, more_up c.args.ends.now c.loop-d.d)
+loop-d-smaller c = omega (arith, next c (tables (goal.at.loop-d-smaller c).Start), more_up c.args.ends.now c.loop-d.d)
 
 pub loop-d-preserved : goal.loop-d-preserved
-loop-d-preserved c = step _ _ _ _ _ _ _ _ _ _ c.loop-d.invariant (omega arith) (enters_in _ _ _ c.requires.sized c.loop-d.d (omega arith)) _ _ _ _ c.meet-m.ensures (next c)
+loop-d-preserved c = step _ _ _ _ _ _ _ _ _ _ c.loop-d.invariant (omega arith) (enters_in _ _ _ c.requires.sized c.loop-d.d (omega arith)) _ _ _ _ c.meet-m.ensures (next c (tables (goal.at.loop-d-preserved c).Start))
 
 pub shape_of-marks : goal.shape_of-marks
 shape_of-marks c = c.loop-d.invariant.long

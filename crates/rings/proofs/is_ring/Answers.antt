@@ -31,16 +31,14 @@ pub returns-then-d-a : goal.returns-then-d-a
 returns-then-d-a c = early _ _ _ _ (first_is (goal.at.returns-then-d-a c).After-wide-a) c.if-ends-a.false c.requires.ports _ _ c.loop-k.invariant c.loop-k-test.true c.if-d-a.true
 
 -- the dart that turns led to
-dart_in : (c : At-loop-k) → c.loop-k.d < length c.args.ends.now
-dart_in c =
-    let first_is : c.wide-a.result ≡ first_dart c.args.ends.now c.args.p = c.wide-a.ensures.0 ∙ first_read _ _ _ _ c.requires.tables c.args.p c.requires.port in
-    followed_in _ _ _ _ first_is c.if-ends-a.false c.requires.ports _ _ c.loop-k.invariant
+dart_in : (c : At-loop-k) → (c.wide-a.result ≡ first_dart c.args.ends.now c.args.p) → c.loop-k.d < length c.args.ends.now
+dart_in c first_is = followed_in _ _ _ _ first_is c.if-ends-a.false c.requires.ports _ _ c.loop-k.invariant
 
 pub offset_bounds-turns-d : goal.offset_bounds-turns-d
-offset_bounds-turns-d c = omega (arith, dart_in (goal.at.offset_bounds-turns-d c).At-loop-k)
+offset_bounds-turns-d c = omega (arith, dart_in (goal.at.offset_bounds-turns-d c).At-loop-k (first_is (goal.at.offset_bounds-turns-d c).After-wide-a))
 
 pub bounds-turns-d : goal.bounds-turns-d
-bounds-turns-d c = omega (arith, dart_in (goal.at.bounds-turns-d c).At-loop-k, c.requires.ports.range.size)
+bounds-turns-d c = omega (arith, dart_in (goal.at.bounds-turns-d c).At-loop-k (first_is (goal.at.bounds-turns-d c).After-wide-a), c.requires.ports.range.size)
 
 pub bounds-more-k : goal.bounds-more-k
 bounds-more-k c = omega (arith, more_long _ _ _ _ c.requires.tables)

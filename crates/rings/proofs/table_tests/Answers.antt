@@ -11,10 +11,8 @@ use Rattle.rings.proofs.table_tests.Goals.{Else-away-n, Else-wild-n}
 in_range : (c : Else-wild-n) → InRange c.args.ends.now c.args.turns.now
 in_range c = range_of _ _ c.requires.darts _ c.first_wild-wild.ensures c.if-wild-n.false
 
-at_ports : (c : Else-away-n) → AtPorts c.args.ends.now c.args.turns.now
-at_ports c =
-    let in_range : InRange c.args.ends.now c.args.turns.now = range_of _ _ c.requires.darts _ c.first_wild-wild.ensures c.if-wild-n.false in
-    ports_of _ _ in_range _ c.first_away-away.ensures c.if-away-n.false
+at_ports : (c : Else-away-n) → (InRange c.args.ends.now c.args.turns.now) → AtPorts c.args.ends.now c.args.turns.now
+at_ports c in_range = ports_of _ _ in_range _ c.first_away-away.ensures c.if-away-n.false
 
 pub returns-then-wild-n : goal.returns-then-wild-n
 returns-then-wild-n c = c.refused.ensures ∙ sym (turn_12 _ _ _ _ c.first_wild-wild.ensures c.if-wild-n.true)
@@ -26,7 +24,7 @@ pub returns-then-away-n : goal.returns-then-away-n
 returns-then-away-n c = c.refused-then-away-n.ensures ∙ sym (turn_13 _ _ _ _ c.first_wild-wild.ensures c.if-wild-n.false _ c.first_away-away.ensures c.if-away-n.true)
 
 pub first_broken-broken-requires : goal.first_broken-broken-requires
-first_broken-broken-requires c = record { ports = at_ports c; tables = c.requires.tables }
+first_broken-broken-requires c = record { ports = at_ports c (in_range (goal.at.first_broken-broken-requires c).Else-wild-n); tables = c.requires.tables }
 
 pub returns-then-broken-first : goal.returns-then-broken-first
 returns-then-broken-first c =

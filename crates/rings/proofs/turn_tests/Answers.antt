@@ -48,8 +48,9 @@ slice_bounds-table_tests-end-2 c = more_size _ _ _ (darts_place (goal.at.slice_b
 
 pub table_tests-requires : goal.table_tests-requires
 table_tests-requires c =
-    let n = first_size _ _ _ _ (ports_place (goal.at.table_tests-requires c).After-no_ends-more) c.neighbours.ensures.first in
-    record { darts = c.requires.darts; tables = tables _ _ _ _ _ _ (ports_place (goal.at.table_tests-requires c).After-no_ends-more) (darts_place (goal.at.table_tests-requires c).After-no_ends-more) c.neighbours.ensures.first c.neighbours.ensures.more; small = (omega (arith, c.requires.small.1), omega (arith, c.requires.small.0)) }
+    let was = goal.at.table_tests-requires c in
+    let n = first_size _ _ _ _ (ports_place was.After-no_ends-more) c.neighbours.ensures.first in
+    record { darts = c.requires.darts; tables = tables _ _ _ _ _ _ (ports_place was.After-no_ends-more) (darts_place was.After-no_ends-more) c.neighbours.ensures.first c.neighbours.ensures.more; small = (omega (arith, c.requires.small.1), omega (arith, c.requires.small.0)) }
 
 pub returns : goal.returns
 returns c =

@@ -3,7 +3,7 @@
 use Prim.Native.Nat.{◌-◌}
 use lib.ListN.{length}
 use Rattle.rules.specs.Lists.{numbers}
-use Rattle.sheet.proofs.Copying.{Copied, start}
+use Rattle.sheet.proofs.Copying.{Copied}
 use Rattle.sheet.proofs.copy_turns.Given as goal
 
 abbrev pub invariant-loop-i : goal.invariant-loop-i

@@ -14,15 +14,11 @@ sized : (c : After-counts-head) → Known c.args.file.now c.counts-head.result.p
 sized c = known _ _ _ c.requires c.counts-head.ensures.0 c.counts-head.ensures.1
 
 -- the parts that are lent
-ends : (c : After-turns_in-turns) → take (2 * c.counts-head.result.channels) c.ends_in-ends.result ≡ ends_in sheet_file c.args.file.now
-ends c =
-    let sized : Known c.args.file.now c.counts-head.result.ports c.counts-head.result.channels = known _ _ _ c.requires c.counts-head.ensures.0 c.counts-head.ensures.1 in
-    lent_part _ _ _ sized _ _ c.ends_in-ends.ensures.0
+ends : (c : After-turns_in-turns) → (Known c.args.file.now c.counts-head.result.ports c.counts-head.result.channels) → take (2 * c.counts-head.result.channels) c.ends_in-ends.result ≡ ends_in sheet_file c.args.file.now
+ends c sized = lent_part _ _ _ sized _ _ c.ends_in-ends.ensures.0
 
-turns : (c : After-turns_in-turns) → take (2 * c.counts-head.result.channels) c.turns_in-turns.result ≡ turns_in sheet_file c.args.file.now
-turns c =
-    let sized : Known c.args.file.now c.counts-head.result.ports c.counts-head.result.channels = known _ _ _ c.requires c.counts-head.ensures.0 c.counts-head.ensures.1 in
-    lent_part _ _ _ sized _ _ c.turns_in-turns.ensures.0
+turns : (c : After-turns_in-turns) → (Known c.args.file.now c.counts-head.result.ports c.counts-head.result.channels) → take (2 * c.counts-head.result.channels) c.turns_in-turns.result ≡ turns_in sheet_file c.args.file.now
+turns c sized = lent_part _ _ _ sized _ _ c.turns_in-turns.ensures.0
 
 pub overflow_mul-darts : goal.overflow_mul-darts
 overflow_mul-darts c = omega (arith, (sized (goal.at.overflow_mul-darts c).After-counts-head).few)
@@ -41,8 +37,11 @@ slice_bounds-turn_tests-end-2 c = front_length _ _ (place_in _ _ _ (sized (goal.
 
 pub turn_tests-requires : goal.turn_tests-requires
 turn_tests-requires c =
-    let w = tests_ready _ _ _ (sized (goal.at.turn_tests-requires c).After-counts-head) _ _ (ends (goal.at.turn_tests-requires c).After-turns_in-turns) (turns (goal.at.turn_tests-requires c).After-turns_in-turns) in
+    let was = goal.at.turn_tests-requires c in
+    let w = tests_ready _ _ _ (sized was.After-counts-head) _ _ (ends was.After-turns_in-turns (sized was.After-counts-head)) (turns was.After-turns_in-turns (sized was.After-counts-head)) in
     record { ports = w.0; darts = w.1; small = (w.2, w.3) }
 
 pub returns : goal.returns
-returns c = c.turn_tests.ensures ∙ tests_as _ _ _ (sized (goal.at.returns c).After-counts-head) _ _ (ends (goal.at.returns c).After-turns_in-turns) (turns (goal.at.returns c).After-turns_in-turns)
+returns c =
+    let was = goal.at.returns c in
+    c.turn_tests.ensures ∙ tests_as _ _ _ (sized was.After-counts-head) _ _ (ends was.After-turns_in-turns (sized was.After-counts-head)) (turns was.After-turns_in-turns (sized was.After-counts-head))

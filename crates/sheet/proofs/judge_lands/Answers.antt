@@ -15,10 +15,8 @@ sized : (c : After-counts-head) → Known c.args.file.now c.counts-head.result.p
 sized c = known _ _ _ c.requires.tested c.counts-head.ensures.0 c.counts-head.ensures.1
 
 -- the part that is lent
-turns : (c : After-turns_in-turns) → take (2 * c.counts-head.result.channels) c.turns_in-turns.result ≡ turns_in sheet_file c.args.file.now
-turns c =
-    let sized : Known c.args.file.now c.counts-head.result.ports c.counts-head.result.channels = known _ _ _ c.requires.tested c.counts-head.ensures.0 c.counts-head.ensures.1 in
-    lent_part _ _ _ sized _ _ c.turns_in-turns.ensures.0
+turns : (c : After-turns_in-turns) → (Known c.args.file.now c.counts-head.result.ports c.counts-head.result.channels) → take (2 * c.counts-head.result.channels) c.turns_in-turns.result ≡ turns_in sheet_file c.args.file.now
+turns c sized = lent_part _ _ _ sized _ _ c.turns_in-turns.ensures.0
 
 pub overflow_mul-n : goal.overflow_mul-n
 overflow_mul-n c = omega (arith, (sized (goal.at.overflow_mul-n c).After-counts-head).few)
@@ -31,16 +29,20 @@ slice_bounds-list_lands-end c = front_length _ _ (place_in _ _ _ (sized (goal.at
 
 pub list_lands-lands-requires : goal.list_lands-lands-requires
 list_lands-lands-requires c =
-    let w = lands_ready _ _ _ (sized (goal.at.list_lands-lands-requires c).After-counts-head) _ (turns (goal.at.list_lands-lands-requires c).After-turns_in-turns) c.requires.tested c.requires.turned _ _ c.requires.room.0 c.requires.room.1 in
+    let was = goal.at.list_lands-lands-requires c in
+    let w = lands_ready _ _ _ (sized was.After-counts-head) _ (turns was.After-turns_in-turns (sized was.After-counts-head)) c.requires.tested c.requires.turned _ _ c.requires.room.0 c.requires.room.1 in
     record { permuting = w.0; few = w.1; room = (w.2, w.3) }
 
 pub overflow_add-flat : goal.overflow_add-flat
-overflow_add-flat c = omega (arith, lands_few _ _ _ (sized (goal.at.overflow_add-flat c).After-counts-head) _ (turns (goal.at.overflow_add-flat c).After-turns_in-turns) c.requires.tested c.requires.turned _ c.list_lands-lands.ensures.number, (sized (goal.at.overflow_add-flat c).After-counts-head).few, (sized (goal.at.overflow_add-flat c).After-counts-head).few_ports)
+overflow_add-flat c =
+    let was = goal.at.overflow_add-flat c in
+    omega (arith, lands_few _ _ _ (sized was.After-counts-head) _ (turns was.After-turns_in-turns (sized was.After-counts-head)) c.requires.tested c.requires.turned _ c.list_lands-lands.ensures.number, (sized was.After-counts-head).few, (sized was.After-counts-head).few_ports)
 
 pub overflow_add-flat-2 : goal.overflow_add-flat-2
 overflow_add-flat-2 c = omega (arith, (sized (goal.at.overflow_add-flat-2 c).After-counts-head).few)
 
 pub returns : goal.returns
 returns c =
-    let w = lands_judged _ _ _ (sized (goal.at.returns c).After-counts-head) _ (turns (goal.at.returns c).After-turns_in-turns) _ _ _ _ _ c.list_lands-lands.ensures.number c.list_lands-lands.ensures.darts c.list_lands-lands.ensures.lengths in
+    let was = goal.at.returns c in
+    let w = lands_judged _ _ _ (sized was.After-counts-head) _ (turns was.After-turns_in-turns (sized was.After-counts-head)) _ _ _ _ _ c.list_lands-lands.ensures.number c.list_lands-lands.ensures.darts c.list_lands-lands.ensures.lengths in
     record { lands = w.0; flat = w.1; darts = w.2; lengths = w.3 }

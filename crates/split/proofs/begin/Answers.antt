@@ -15,11 +15,9 @@ blank : (c : After-fill) → c.fill.new.s ≡ replicate (length c.args.turns.now
 blank c = c.fill.ensures ∙ blank_of c.args.turns.now c.args.mark c.requires.mark_value
 
 -- the turns lead round the cycle and its reverse
-led : (c : After-close)
+led : (c : After-close) → (c.fill.new.s ≡ replicate (length c.args.turns.now) missing)
     → c.close.new.turns ≡ around c.args.cycle.now (around (back c.args.cycle.now) (replicate (length c.args.turns.now) missing))
-led c =
-    let blank : c.fill.new.s ≡ replicate (length c.args.turns.now) missing = c.fill.ensures ∙ blank_of c.args.turns.now c.args.mark c.requires.mark_value in
-    c.close.ensures ∙ ap (λ (t : List ℕ). around c.args.cycle.now (around (back c.args.cycle.now) t)) blank
+led c blank = c.close.ensures ∙ ap (λ (t : List ℕ). around c.args.cycle.now (around (back c.args.cycle.now) t)) blank
 
 pub close-requires : goal.close-requires
 close-requires c =
@@ -29,15 +27,16 @@ close-requires c =
 pub renew-requires : goal.renew-requires
 renew-requires c =
     let C = c.requires.cyclic in
-    let w = begin_cycle _ _ _ _ C _ c.wide-d.ensures.0 _ (led (goal.at.renew-requires c).After-close) in
+    let w = begin_cycle _ _ _ _ C _ c.wide-d.ensures.0 _ (led (goal.at.renew-requires c).After-close (blank (goal.at.renew-requires c).After-fill)) in
     record { darts = w.0; n_nonzero = (w.1, w.2); k_in_bounds = (omega (arith, C.starts), omega (arith, C.sizes)) }
 
 pub renew-requires-2 : goal.renew-requires-2
 renew-requires-2 c =
+    let was = goal.at.renew-requires-2 c in
     let C = c.requires.cyclic in
     let f = c.wide-d.ensures.0 in
-    let h = begin_cycle _ _ _ _ C _ f _ (led (goal.at.renew-requires-2 c).After-close) in
-    record { darts = begin_back _ _ _ _ C _ f _ (led (goal.at.renew-requires-2 c).After-close) _ c.reverse.ensures; n_nonzero = (h.1, h.2); k_in_bounds = (omega (arith, C.starts, c.renew.auto.firsts), omega (arith, C.sizes, c.renew.auto.lens)) }
+    let h = begin_cycle _ _ _ _ C _ f _ (led was.After-close (blank was.After-fill)) in
+    record { darts = begin_back _ _ _ _ C _ f _ (led was.After-close (blank was.After-fill)) _ c.reverse.ensures; n_nonzero = (h.1, h.2); k_in_bounds = (omega (arith, C.starts, c.renew.auto.firsts), omega (arith, C.sizes, c.renew.auto.lens)) }
 
 pub returns : goal.returns
-returns c = begun _ _ _ _ c.requires.cyclic _ c.wide-d.ensures.0 _ (led (goal.at.returns c).After-close) _ c.reverse.ensures _ _ _ _ c.renew.ensures.firsts_after c.renew.ensures.lens_after c.renew-2.ensures.firsts_after c.renew-2.ensures.lens_after
+returns c = begun _ _ _ _ c.requires.cyclic _ c.wide-d.ensures.0 _ (led (goal.at.returns c).After-close (blank (goal.at.returns c).After-fill)) _ c.reverse.ensures _ _ _ _ c.renew.ensures.firsts_after c.renew.ensures.lens_after c.renew-2.ensures.firsts_after c.renew-2.ensures.lens_after

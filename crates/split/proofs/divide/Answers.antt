@@ -19,23 +19,17 @@ found c =
     (sym (divide_land _ _ _ _ _ _ _ _ _ c.requires _ _ c.wide.ensures.0 c.wide-2.ensures.0)) c.stretches_at-s.ensures
 
 -- what is walked of the new lands
-kept : (c : After-turn)
+kept : (c : After-turn) → (Found c.args.ends.now c.args.x c.args.y (get_or (lands c.args.turns.now c.args.firsts.now c.args.lens.now c.args.count) c.args.i []) c.stretches_at-s.result)
     → let b = c.stretches_at-s.result.b in
     let m = length c.args.path.now + b.size in
     Darts c.turn.new.turns (land_from c.turn.new.turns m b.first) × (0 < m) × (m < 65536)
-kept c =
-    let found : Found c.args.ends.now c.args.x c.args.y (get_or (lands c.args.turns.now c.args.firsts.now c.args.lens.now c.args.count) c.args.i []) c.stretches_at-s.result = subst (λ (l : List ℕ). Found c.args.ends.now c.args.x c.args.y l c.stretches_at-s.result)
-    (sym (divide_land _ _ _ _ _ _ _ _ _ c.requires _ _ c.wide.ensures.0 c.wide-2.ensures.0)) c.stretches_at-s.ensures in
-    divide_kept _ _ _ _ _ _ _ _ _ c.requires _ _ found.a found.b _ c.turn.ensures
+kept c found = divide_kept _ _ _ _ _ _ _ _ _ c.requires _ _ found.a found.b _ c.turn.ensures
 
-made : (c : After-turn)
+made : (c : After-turn) → (Found c.args.ends.now c.args.x c.args.y (get_or (lands c.args.turns.now c.args.firsts.now c.args.lens.now c.args.count) c.args.i []) c.stretches_at-s.result)
     → let a = c.stretches_at-s.result.a in
     let m = length c.args.path.now + a.size in
     Darts c.turn.new.turns (land_from c.turn.new.turns m a.first) × (0 < m) × (m < 65536)
-made c =
-    let found : Found c.args.ends.now c.args.x c.args.y (get_or (lands c.args.turns.now c.args.firsts.now c.args.lens.now c.args.count) c.args.i []) c.stretches_at-s.result = subst (λ (l : List ℕ). Found c.args.ends.now c.args.x c.args.y l c.stretches_at-s.result)
-    (sym (divide_land _ _ _ _ _ _ _ _ _ c.requires _ _ c.wide.ensures.0 c.wide-2.ensures.0)) c.stretches_at-s.ensures in
-    divide_made _ _ _ _ _ _ _ _ _ c.requires _ _ found.a found.b _ c.turn.ensures
+made c found = divide_made _ _ _ _ _ _ _ _ _ c.requires _ _ found.a found.b _ c.turn.ensures
 
 pub stretches_at-s-requires : goal.stretches_at-s-requires
 stretches_at-s-requires c =
@@ -48,20 +42,20 @@ turn-requires c =
     record { darts = w.0; darts_2 = w.1 }
 
 pub overflow_add-n : goal.overflow_add-n
-overflow_add-n c = omega (arith, (kept (goal.at.overflow_add-n c).After-turn).2)
+overflow_add-n c = omega (arith, (kept (goal.at.overflow_add-n c).After-turn (found (goal.at.overflow_add-n c).After-stretches_at-s)).2)
 
 pub renew-requires : goal.renew-requires
 renew-requires c =
-    let w = kept (goal.at.renew-requires c).After-turn in
+    let w = kept (goal.at.renew-requires c).After-turn (found (goal.at.renew-requires c).After-stretches_at-s) in
     let D = c.requires in
     record { darts = w.0; n_nonzero = (w.1, w.2); k_in_bounds = (omega (arith, D.land, D.starts), omega (arith, D.land, D.sizes)) }
 
 pub overflow_add-n-2 : goal.overflow_add-n-2
-overflow_add-n-2 c = omega (arith, (made (goal.at.overflow_add-n-2 c).After-turn).2)
+overflow_add-n-2 c = omega (arith, (made (goal.at.overflow_add-n-2 c).After-turn (found (goal.at.overflow_add-n-2 c).After-stretches_at-s)).2)
 
 pub renew-requires-2 : goal.renew-requires-2
 renew-requires-2 c =
-    let w = made (goal.at.renew-requires-2 c).After-turn in
+    let w = made (goal.at.renew-requires-2 c).After-turn (found (goal.at.renew-requires-2 c).After-stretches_at-s) in
     let D = c.requires in
     record { darts = w.0; n_nonzero = (w.1, w.2); k_in_bounds = (omega (arith, D.starts, c.renew.auto.firsts), omega (arith, D.sizes, c.renew.auto.lens)) }
 

@@ -44,21 +44,17 @@ second c = c.wide-b.ensures.0 ∙ second_end c.args.ends.now c.first_channel-c.r
 firstly : (c : After-mark_all) → c.wide-a.result ≡ leaves c.args.ends.now (2 * c.first_channel-c.result)
 firstly c = c.wide-a.ensures.0 ∙ end_first c.args.ends.now c.first_channel-c.result
 
-cyclic : (c : After-path-n) (d : ℕ) → d ≡ 2 * c.first_channel-c.result → d ∷ (path_over c.args.ends.now c.all_but.new.own c.mark_all.new.marks c.wide-b.result c.wide-a.result) ≡ cycle (length c.args.first.now) c.args.ends.now c.args.play.now (first_channel (length c.args.first.now) c.args.ends.now c.args.play.now)
+cyclic : (c : After-path-n) → (c.first_channel-c.result ≡ first_channel (length c.args.first.now) c.args.ends.now c.args.play.now) → (T (at c.args.play.now c.first_channel-c.result)) → (c.wide-b.result ≡ enters c.args.ends.now (2 * c.first_channel-c.result)) → (c.wide-a.result ≡ leaves c.args.ends.now (2 * c.first_channel-c.result)) → (c.mark_all.new.marks ≡ replicate (length c.args.first.now) true) → (d : ℕ) → d ≡ 2 * c.first_channel-c.result → d ∷ (path_over c.args.ends.now c.all_but.new.own c.mark_all.new.marks c.wide-b.result c.wide-a.result) ≡ cycle (length c.args.first.now) c.args.ends.now c.args.play.now (first_channel (length c.args.first.now) c.args.ends.now c.args.play.now)
 unfolding first_channel
-cyclic c d e =
-    let same : c.first_channel-c.result ≡ first_channel (length c.args.first.now) c.args.ends.now c.args.play.now = c.first_channel-c.ensures in
-    let playing : T (at c.args.play.now c.first_channel-c.result) = subst (λ (k : ℕ). T (at c.args.play.now k)) (sym same) (first_in _ _ _ c.requires.plan) in
-    let second : c.wide-b.result ≡ enters c.args.ends.now (2 * c.first_channel-c.result) = c.wide-b.ensures.0 ∙ second_end c.args.ends.now c.first_channel-c.result in
-    let firstly : c.wide-a.result ≡ leaves c.args.ends.now (2 * c.first_channel-c.result) = c.wide-a.ensures.0 ∙ end_first c.args.ends.now c.first_channel-c.result in
-    let all_free : c.mark_all.new.marks ≡ replicate (length c.args.first.now) true = c.mark_all.ensures ∙ ap (λ (m : ℕ). replicate m true) c.requires.desk.1 in
+cyclic c same playing second firstly all_free d e =
     ap (λ (k : ℕ). k ∷ (path_over c.args.ends.now c.all_but.new.own c.mark_all.new.marks c.wide-b.result c.wide-a.result)) e
     ∙ round_is _ _ _ c.requires.plan c.first_channel-c.result playing _ _ second firstly _ _ c.all_but.ensures all_free
     ∙ ap (cycle (length c.args.first.now) c.args.ends.now c.args.play.now) same
 
 -- the cycle is short, and fits the story
-short : (c : After-path-n) → c.path-n.result + 1 < 65536
-short c = omega (arith, c.path-n.ensures.number, ap length (cyclic c _ refl), cycle_short _ _ _ c.requires.plan, c.requires.plan.layable.size2, c.requires.plan.layable.few)
+short : (c : After-path-n) → (c.first_channel-c.result ≡ first_channel (length c.args.first.now) c.args.ends.now c.args.play.now) → (T (at c.args.play.now c.first_channel-c.result)) → (c.wide-b.result ≡ enters c.args.ends.now (2 * c.first_channel-c.result)) → (c.wide-a.result ≡ leaves c.args.ends.now (2 * c.first_channel-c.result)) → (c.mark_all.new.marks ≡ replicate (length c.args.first.now) true) → c.path-n.result + 1 < 65536
+short c same playing second firstly all_free =
+    omega (arith, c.path-n.ensures.number, ap length (cyclic c same playing second firstly all_free _ refl), cycle_short _ _ _ c.requires.plan, c.requires.plan.layable.size2, c.requires.plan.layable.few)
 
 wide_enough : (c : After-path-n) → 2 + length (path_over c.args.ends.now c.all_but.new.own c.mark_all.new.marks c.wide-b.result c.wide-a.result) ≤ length c.args.story.now
 wide_enough c = front_room c.args.story.now (path_over c.args.ends.now c.all_but.new.own c.mark_all.new.marks c.wide-b.result c.wide-a.result) _ _ 2 c.path-n.ensures.darts c.path-n.auto.out (omega (arith, c.requires.room))
@@ -89,14 +85,19 @@ all_but-requires c = record { own = c.requires.desk.2; channel = omega (arith, s
 
 pub path-n-requires : goal.path-n-requires
 path-n-requires c =
-    let w = ask_round _ _ _ c.requires.plan c.first_channel-c.result (playing (goal.at.path-n-requires c).After-first_channel-c) _ _ c.requires.tables _ _ c.all_but.ensures (all_free (goal.at.path-n-requires c).After-mark_all) _ _ (second (goal.at.path-n-requires c).After-mark_all) (firstly (goal.at.path-n-requires c).After-mark_all) _ _ c.requires.desk.0 (part_long c.args.story.now 2 _ (omega (arith, c.requires.room))) in
+    let was = goal.at.path-n-requires c in
+    let w = ask_round _ _ _ c.requires.plan c.first_channel-c.result (playing was.After-first_channel-c) _ _ c.requires.tables _ _ c.all_but.ensures (all_free was.After-mark_all) _ _ (second was.After-mark_all) (firstly was.After-mark_all) _ _ c.requires.desk.0 (part_long c.args.story.now 2 _ (omega (arith, c.requires.room))) in
     record { sizes = w.0; tables = w.1.0; marks = w.1.1.0; room = w.1.1.1.0; ports = w.1.1.1.1.0; reached = w.1.1.1.1.1 }
 
 pub overflow_add-n : goal.overflow_add-n
-overflow_add-n c = omega (arith, short (goal.at.overflow_add-n c).After-path-n)
+overflow_add-n c =
+    let was = goal.at.overflow_add-n c in
+    omega (arith, short was.After-path-n (same was.After-first_channel-c) (playing was.After-first_channel-c) (second was.After-mark_all) (firstly was.After-mark_all) (all_free was.After-mark_all))
 
 pub narrow-requires : goal.narrow-requires
-narrow-requires c = omega (arith, short (goal.at.narrow-requires c).After-path-n)
+narrow-requires c =
+    let was = goal.at.narrow-requires c in
+    omega (arith, short was.After-path-n (same was.After-first_channel-c) (playing was.After-first_channel-c) (second was.After-mark_all) (firstly was.After-mark_all) (all_free was.After-mark_all))
 
 pub bounds-story-0 : goal.bounds-story-0
 bounds-story-0 c = omega (arith, long (goal.at.bounds-story-0 c).After-path-n, wide_enough (goal.at.bounds-story-0 c).After-path-n)
@@ -111,10 +112,14 @@ pub slice_bounds-begin-end : goal.slice_bounds-begin-end
 slice_bounds-begin-end c = simp length-set (omega (arith, long (goal.at.slice_bounds-begin-end c).After-path-n, wide_enough (goal.at.slice_bounds-begin-end c).After-path-n))
 
 pub begin-requires : goal.begin-requires
-begin-requires c = record { cyclic = ask_begin _ _ _ c.requires.plan _ _ _ c.args.story.now (path_over c.args.ends.now c.all_but.new.own c.mark_all.new.marks c.wide-b.result c.wide-a.result) c.path-n.new.out c.path-n.result c.narrow-2.result c.narrow.result (cyclic (goal.at.begin-requires c).After-path-n _ c.narrow-2.ensures) c.path-n.ensures.number c.narrow.ensures c.path-n.ensures.darts (wide_enough (goal.at.begin-requires c).After-path-n) c.requires.turns c.requires.starts c.requires.sizes c.requires.room; mark_value = refl }
+begin-requires c =
+    let was = goal.at.begin-requires c in
+    record { cyclic = ask_begin _ _ _ c.requires.plan _ _ _ c.args.story.now (path_over c.args.ends.now c.all_but.new.own c.mark_all.new.marks c.wide-b.result c.wide-a.result) c.path-n.new.out c.path-n.result c.narrow-2.result c.narrow.result (cyclic was.After-path-n (same was.After-first_channel-c) (playing was.After-first_channel-c) (second was.After-mark_all) (firstly was.After-mark_all) (all_free was.After-mark_all) _ c.narrow-2.ensures) c.path-n.ensures.number c.narrow.ensures c.path-n.ensures.darts (wide_enough was.After-path-n) c.requires.turns c.requires.starts c.requires.sizes c.requires.room; mark_value = refl }
 
 pub shape_of-story : goal.shape_of-story
 shape_of-story c = simp length-set (long (goal.at.shape_of-story c).After-path-n)
 
 pub returns : goal.returns
-returns c = laid_cycle _ _ _ c.requires.plan _ _ _ c.args.story.now (path_over c.args.ends.now c.all_but.new.own c.mark_all.new.marks c.wide-b.result c.wide-a.result) c.path-n.new.out c.path-n.result c.narrow-2.result c.narrow.result (cyclic (goal.at.returns c).After-path-n _ c.narrow-2.ensures) c.path-n.ensures.number c.narrow.ensures c.path-n.ensures.darts (wide_enough (goal.at.returns c).After-path-n) c.requires.turns c.requires.starts c.requires.sizes c.requires.room _ _ _ (set (set (put_mid 2 (length c.args.story.now - 2) c.args.story.now c.path-n.new.out) 0 c.narrow.result) 1 c.narrow-2.result) c.begin.ensures refl (simp length-set (long (goal.at.returns c).After-path-n))
+returns c =
+    let was = goal.at.returns c in
+    laid_cycle _ _ _ c.requires.plan _ _ _ c.args.story.now (path_over c.args.ends.now c.all_but.new.own c.mark_all.new.marks c.wide-b.result c.wide-a.result) c.path-n.new.out c.path-n.result c.narrow-2.result c.narrow.result (cyclic was.After-path-n (same was.After-first_channel-c) (playing was.After-first_channel-c) (second was.After-mark_all) (firstly was.After-mark_all) (all_free was.After-mark_all) _ c.narrow-2.ensures) c.path-n.ensures.number c.narrow.ensures c.path-n.ensures.darts (wide_enough was.After-path-n) c.requires.turns c.requires.starts c.requires.sizes c.requires.room _ _ _ (set (set (put_mid 2 (length c.args.story.now - 2) c.args.story.now c.path-n.new.out) 0 c.narrow.result) 1 c.narrow-2.result) c.begin.ensures refl (simp length-set (long was.After-path-n))

@@ -70,8 +70,9 @@ divide-requires c = ask_divide _ _ _ c.requires.plan.layable _ _ _ _ _ _ _ _ _ _
 
 pub enter-requires : goal.enter-requires
 enter-requires c =
-    let z = small (goal.at.enter-requires c).After-cross-way in
-    record { room = omega (arith, ending (goal.at.enter-requires c).After-cross-way, kept (goal.at.enter-requires c).After-cross-way); small = (z.3, z.4, z.2) }
+    let was = goal.at.enter-requires c in
+    let z = small was.After-cross-way in
+    record { room = omega (arith, ending was.After-cross-way, kept was.After-cross-way); small = (z.3, z.4, z.2) }
 
 pub shape_of-story : goal.shape_of-story
 shape_of-story c = c.enter.auto.story ∙ kept (goal.at.shape_of-story c).After-cross-way

@@ -3,6 +3,7 @@ pub mod Counts
 pub mod Lists
 pub mod Sets
 pub mod Seeking
+pub mod Finding
 pub mod Orbits
 pub mod Runs
 pub mod Links

@@ -2,7 +2,7 @@
 -- unmarked: marks at the start. darts_filled: the lands take up every place of the darts, so nothing is left to fill. lengths_filled: where the places were 0 before, the lengths are followed by 0.
 -- Assumes nothing.
 use mathlib.Core.Path.{◌≡◌, sym, ap, ◌∙◌}
-use mathlib.Core.Bool.{Bool, false}
+use mathlib.Core.Bool.{false}
 use mathlib.Core.List.{List, ◌++◌, map, append_assoc, append-nil}
 use Prim.Native.Nat.{ℕ, zero, suc, ◌-◌, ◌/◌, ◌≤◌}
 use native.Mathlib.Omega.{arith}
@@ -15,12 +15,9 @@ use Rattle.laws.proofs.Tests.{T_isnt}
 use Rattle.laws.proofs.Sets.{at_none}
 use Rattle.laws.proofs.Permuting.{Permuting}
 use Rattle.laws.proofs.Gathering.{lands_lands_of}
-use Rattle.plate.specs.State.{most_darts}
-use Rattle.afresh.specs.Marks.{no_dart_marks}
 
-pub unmarked : (s : List Bool) → s ≡ no_dart_marks → (d : ℕ) → at s d ≡ false
-unfolding no_dart_marks
-unmarked s e d = ap (λ (r : List Bool). at r d) e ∙ T_isnt (at (replicate most_darts false) d) (at_none most_darts d)
+pub unmarked : (n d : ℕ) → at (replicate n false) d ≡ false
+unmarked n d = T_isnt (at (replicate n false) d) (at_none n d)
 
 drop_replicate : (k n x : ℕ) → drop k (replicate n x) ≡ replicate (n - k) x
 drop_replicate zero n x = let e : n ≡ n - 0 = omega arith in ap (λ (m : ℕ). replicate m x) e

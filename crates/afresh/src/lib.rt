@@ -7,10 +7,11 @@ ghost use Rattle.rules.specs.Terms.{missing, lands_of};
 ghost use Rattle.rules.specs.Laying.{filled};
 ghost use Rattle.laws.proofs.Permuting.{Permuting, land_of};
 ghost use Rattle.plate.specs.State.{most_darts};
-ghost use Rattle.afresh.specs.Marks.{marked, no_dart_marks};
+ghost use Rattle.afresh.specs.Marks.{marked};
 
-use numbers::{fill, narrow};
 use plate::Plate;
+
+// `Permuting` is asked along one chain of three calls over one slice: a type of one field for it would be no plainer.
 
 // The land of dart a: puts its darts behind the first n of `darts`, and marks them. Answers where they end.
 fn walk_land(turns: &[u16], a: usize, darts: &mut [u16], seen: &mut [bool], n: usize) -> usize
@@ -24,8 +25,9 @@ fn walk_land(turns: &[u16], a: usize, darts: &mut [u16], seen: &mut [bool], n: u
 {
     let mut d = a;
     let mut k = n;
+    // The land tells where it ends, so no range counts its darts beforehand.
     loop {
-        darts[k] = narrow(d);
+        darts[k] = d as u16;
         seen[d] = true;
         k += 1;
         d = land::after(turns, d);
@@ -47,26 +49,16 @@ fn gather_lands(turns: &[u16], darts: &mut [u16], lengths: &mut [u16], seen: &mu
 {
     let mut lands = 0;
     let mut n = 0;
-    let mut d = 0;
-    while d < turns.len() {
+    for d in 0..turns.len() {
         if seen[d] {
-            d += 1;
             continue;
         }
         let end = walk_land(turns, d, darts, seen, n);
-        lengths[lands] = narrow(end - n);
+        lengths[lands] = (end - n) as u16;
         lands += 1;
         n = end;
-        d += 1;
     }
     lands
-}
-
-// For each dart of the largest plate, no mark.
-fn no_dart_marks() -> [bool; Plate::MOST_DARTS]
-    ensures { (result ≡ no_dart_marks) × (most_darts ≡ length result) }
-{
-    [false; Plate::MOST_DARTS]
 }
 
 // The lands of the turns, in order of smallest dart: their darts, one after another, at the start of `darts`; at the start of `lengths` their lengths, then 0 up to one for each channel. Answers how many they are.
@@ -79,7 +71,7 @@ pub fn list_lands(turns: &[u16], darts: &mut [u16], lengths: &mut [u16]) -> usiz
     ensures lengths { lengths.new ≡ filled (map length (lands_of turns.now)) 0 (length turns.now / 2) lengths.old }
 {
     let channels = turns.len() / 2;
-    let mut seen = no_dart_marks();
-    fill(lengths, 0, channels, 0);
+    let mut seen = [false; Plate::MOST_DARTS];
+    lengths[..channels].fill(0);
     gather_lands(turns, darts, lengths, &mut seen)
 }

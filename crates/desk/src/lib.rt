@@ -3,25 +3,20 @@
 
 ghost use Rattle.std.specs.Prelude.{◌≡◌, ◌+◌, ◌*◌, ◌≤◌, length};
 ghost use Rattle.rules.specs.Files.{limits1};
+ghost use Rattle.split.specs.Kept.{Kept};
 ghost use Rattle.step.specs.Rooms.{Plan};
 ghost use Rattle.rounds.specs.Rooms.{Left};
-ghost use Rattle.desk.specs.Room.{story_size, no_story};
 
+use fragment::Desk;
 use plate::Plate;
 use rounds::End;
+use split::Laying;
 
-// The number of paths that is no cap.
+// The number of paths that is no cap: document 01 gives n as a number, and so does C.
 pub const WITHOUT_CAP: usize = 4294967295;
 
 // The most numbers in the record of what was laid.
-const STORY: usize = 4 * Plate::MOST_CHANNELS + Plate::MOST_PORTS + 4;
-
-// The record of what was laid, with nothing in it.
-pub fn no_story() -> [u16; STORY]
-    ensures { (result ≡ no_story) × (story_size ≡ length result) }
-{
-    [0u16; STORY]
-}
+pub const STORY: usize = 4 * Plate::MOST_CHANNELS + Plate::MOST_PORTS + 4;
 
 // Lays a plate by the channels in play, the first cycle and then n paths at most, in working arrays of its own.
 pub fn lay_out(
@@ -30,48 +25,48 @@ pub fn lay_out(
     n: usize,
     first: &mut [u16],
     more: &mut [u16],
-    turns: &mut [u16],
-    firsts: &mut [u16],
-    lens: &mut [u16],
+    laying: &mut Laying<'_>,
     story: &mut [u16],
 ) -> End
     requires plan { Plan (length first.old) ends.now play.now }
     requires ports { length first.old ≤ limits1.most_ports }
     requires channels { length play.now ≤ limits1.most_channels }
     requires more { length more.old ≡ length ends.now }
-    requires turns { length turns.old ≡ length ends.now }
-    requires starts { length play.now + 2 ≤ length firsts.old }
-    requires sizes { length play.now + 2 ≤ length lens.old }
+    requires turns { length laying.old.turns.now ≡ length ends.now }
+    requires starts { length play.now + 2 ≤ length laying.old.firsts.now }
+    requires sizes { length play.now + 2 ≤ length laying.old.lens.now }
     requires room { 4 * length play.now + length first.old + 4 ≤ length story.old }
-    ensures { Left (length first.old) ends.now play.now n first.new more.new turns.new firsts.new lens.new story.new result }
+    ensures left { let m = laying.new in Left (length first.old) ends.now play.now n first.new more.new m.turns.now m.firsts.now m.lens.now story.new result }
+    ensures kept { Kept laying.old laying.new }
 {
     let v = first.len();
     let e = play.len();
     let darts = ends.len();
-    let mut laid = Plate::no_marks();
-    let mut marks = Plate::no_marks();
-    let mut queue = Plate::no_ports();
-    let mut touched = Plate::no_marks();
-    let mut contacts = Plate::no_ports();
-    let mut inside = Plate::no_marks();
-    let mut own = Plate::all_channels();
-    let mut bars = Plate::no_ends();
+    let mut laid = [false; Plate::MOST_PORTS];
+    let mut marks = [false; Plate::MOST_PORTS];
+    let mut queue = [0u16; Plate::MOST_PORTS];
+    let mut touched = [false; Plate::MOST_PORTS];
+    let mut contacts = [0u16; Plate::MOST_PORTS];
+    let mut inside = [false; Plate::MOST_PORTS];
+    let mut own = [true; Plate::MOST_CHANNELS];
+    let mut bars = [0u16; Plate::MOST_DARTS];
+    let mut desk = Desk {
+        marks: &mut marks[..v],
+        queue: &mut queue[..v],
+        touched: &mut touched[..v],
+        contacts: &mut contacts[..v],
+        inside: &mut inside[..v],
+        own: &mut own[..e],
+    };
     rounds::lay_out(
         ends,
         play,
         n,
         first,
         more,
-        turns,
-        firsts,
-        lens,
+        laying,
         &mut laid[..v],
-        &mut marks[..v],
-        &mut queue[..v],
-        &mut touched[..v],
-        &mut contacts[..v],
-        &mut inside[..v],
-        &mut own[..e],
+        &mut desk,
         story,
         &mut bars[..darts],
     )

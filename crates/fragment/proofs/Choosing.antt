@@ -3,25 +3,27 @@
 --   lp               the laid ports
 --   choice f         the choice of the fragment f
 --   total            all fragments, in order of name
--- fragments_settled, fragments_new, fragments_over, fragments_rest: from channel to channel. few_..: few tells 0 and 1 from more. held_new: one choice more. keeps_.., takes_..: what is held, by the numbers of lands. told_as, flat_told, stuck_told, ready_told: the three answers.
+--   weight_of c      what the fragment of the choice c weighs, which has an admissible land
+-- fragments_settled, fragments_new, fragments_over, fragments_rest: from channel to channel. weighed_..: by the admissible lands. held_new, held_more: one choice more. flat_told, stuck_told, ready_told: the three answers. some_held: a round that is not flat has a choice.
 -- Assumes nothing.
 use mathlib.Core.Path.{◌≡◌, refl, sym, ap, ◌∙◌}
-use mathlib.Core.Logic.{◌≢◌, ⊎_elim}
-use mathlib.Core.Bool.{Bool, true, false, cond, not}
+use mathlib.Core.Logic.{⊎_elim}
+use mathlib.Core.Bool.{Bool, true, false, cond, not, ◌||◌}
 use mathlib.Core.List.{List, [], ◌∷◌, ◌++◌, map, map-append, append_assoc, append-nil}
-use Prim.Native.Nat.{ℕ, zero, suc, ◌+◌, ◌-◌, ◌≤◌, ◌<◌}
+use Prim.Native.Nat.{ℕ, ◌+◌, ◌-◌, ◌≤◌, ◌<◌}
 use native.Mathlib.Nat.{not-suc-le-zero, eq-zero-or-pos}
 use native.Mathlib.Omega.{arith}
 use lib.Dec.{T, T_not, eqb, eqb→eq}
-use lib.ListN.{length}
+use lib.ListN.{length, get_or}
+use Rattle.std.specs.Prelude.{Option, Some, None}
+use Rattle.std.specs.Option.{unwrap_or}
 use Rattle.rules.specs.Lists.{from, keep}
 use Rattle.rules.specs.Laying.{Fragment, Choice, flat, ready, without, single, lowest, chosen, stuck_or, fragment_at, settled, fragments, choice_of, choices, all_laid, judge}
-use Rattle.laws.proofs.Tests.{T_is, T_isnt, eq_eqb, eqb_yes, eqb_no, ne_neqb}
+use Rattle.laws.proofs.Tests.{cond_cases, T_is, T_isnt, eq_eqb, ne_neqb}
 use Rattle.laws.proofs.Lists.{All, all_weaken, keep_none}
-use Rattle.laws.proofs.Choices.{Open}
-use Rattle.fragment.specs.Rounds.{few, held_of, preferred, laid_by, state_of, verdict_of}
-use Rattle.fragment.specs.declared.Held.{Held}
-use Rattle.fragment.specs.declared.Verdict.{Verdict as Told}
+use Rattle.laws.proofs.Choices.{Open, chosen_in, choices_some}
+use Rattle.fragment.specs.Rounds.{weighed, held_of, preferred, laid_by, state_of, verdict_of}
+use Rattle.fragment.specs.declared.Weight.{Weight}
 use Rattle.fragment.specs.declared.Verdict.TheVariants.{Flat, Stuck, Ready}
 use Rattle.fragment.proofs.Rising.{from_cut, from_over}
 
@@ -78,30 +80,37 @@ unfolding keep
 none_kept f [] a = refl
 none_kept f (x ∷ l) a = rw (T_isnt (f x) (T_not (f x) a.0)) (none_kept f l a.1)
 
--- ---- how many lands
+-- ---- what a fragment weighs
 
-pub few_none : (n : ℕ) → few n ≡ 0 → n ≡ 0
-unfolding few
-few_none zero e = refl
-few_none (suc zero) e = e
-few_none (suc (suc n)) e = absurd (not-suc-le-zero {n = 0} (omega arith))
+none_some : (w : Weight) → None ≡ Some w → ⊥
+none_some w e = cc
 
-pub few_pos : (n : ℕ) → few n ≢ 0 → 1 ≤ n
-unfolding few
-few_pos zero h = absurd (h refl)
-few_pos (suc n) h = omega arith
+some_is : (u w : Weight) → Some u ≡ Some w → u ≡ w
+some_is u w e = ap (λ o. unwrap_or o u) e
 
-few_one : (n : ℕ) → eqb (few n) 1 ≡ eqb n 1
-unfolding few
-few_one zero = refl
-few_one (suc zero) = refl
-few_one (suc (suc n)) = sym (T_isnt (eqb (suc (suc n)) 1) (λ t. let e = eqb→eq (suc (suc n)) 1 t in not-suc-le-zero {n = 0} (omega arith)))
+pub weighed_none : (k : ℕ) (fits : List ℕ) → None ≡ weighed k fits → length fits ≡ 0
+weighed_none k [] e = refl
+weighed_none k (l ∷ fits) e = absurd (none_some _ e)
 
-few_some : (n : ℕ) → 1 ≤ n → eqb (few n) 0 ≡ false
-unfolding few
-few_some zero h = absurd (not-suc-le-zero h)
-few_some (suc zero) h = refl
-few_some (suc (suc n)) h = refl
+pub weighed_some : (k : ℕ) (fits : List ℕ) (w : Weight) → Some w ≡ weighed k fits → 1 ≤ length fits
+weighed_some k [] w e = absurd (none_some w (sym e))
+weighed_some k (l ∷ fits) w e = omega arith
+
+weighed_choice : (k : ℕ) (fits : List ℕ) (w : Weight) → Some w ≡ weighed k fits → w.choice ≡ record { name = k; land = get_or fits 0 0 }
+weighed_choice k [] w e = absurd (none_some w (sym e))
+weighed_choice k (l ∷ fits) w e = ap (λ o. (unwrap_or o w).choice) e
+
+pub weighed_is : (k : ℕ) (fits : List ℕ) (a : ℕ) (o : Bool) → 1 ≤ length fits → get_or fits 0 0 ≡ a → eqb (length fits) 1 ≡ o → Some (record { choice = record { name = k; land = a }; only = o }) ≡ weighed k fits
+weighed_is k [] a o h e q = absurd (not-suc-le-zero h)
+weighed_is k (l ∷ fits) a o h e q = ap (λ (m : ℕ). Some (record { choice = record { name = k; land = m }; only = o })) (sym e) ∙ ap (λ (x : Bool). Some (record { choice = record { name = k; land = l }; only = x })) (sym q)
+
+-- of a choice that has an admissible land
+abbrev weight_of : Choice → Weight
+weight_of c = record { choice = record { name = c.fragment.name; land = get_or c.fits 0 0 }; only = single c }
+
+held_open : (c : Choice) → Open c → held_of c ≡ Some (weight_of c)
+unfolding single
+held_open c h = sym (weighed_is c.fragment.name c.fits (get_or c.fits 0 0) (eqb (length c.fits) 1) h refl refl)
 
 -- ---- one choice more
 
@@ -125,25 +134,19 @@ lowest_single (x ∷ l) h = go (single x) refl (lowest_single l) h
     go true e f k = rw e tt
     go false e f k = f k
 
+open_single : (c : Choice) → T (single c) → Open c
+unfolding single
+open_single c t = omega (arith, eqb→eq (length c.fits) 1 t)
+
 module _ (c : Choice) (o : Open c) where
-  -- what is preferred where one with exactly one land is held, where none is, and where nothing is
-  prefer_held : (h : Choice) → T (single h) → preferred (held_of h) (held_of c) ≡ held_of h
-  unfolding preferred single
-  prefer_held h s = rw (few_one (length h.fits), T_is (eqb (length h.fits) 1) s)
+  -- what is preferred where one with exactly one land is held, and where another is
+  prefer_held : (h : Choice) → T (single h) → preferred (Some (weight_of h)) (weight_of c) ≡ weight_of h
+  prefer_held h s = ap (λ (b : Bool). cond (b || not (single c)) (weight_of h) (weight_of c)) (T_is (single h) s)
 
-  prefer_first : (h : Choice) → Open h → T (not (single h)) → preferred (held_of h) (held_of c) ≡ held_of (cond (single c) c h)
-  unfolding preferred single
-  prefer_first h p s = rw (few_one (length h.fits), T_isnt (eqb (length h.fits) 1) (T_not (eqb (length h.fits) 1) s), few_one (length c.fits), few_some (length h.fits) p) (go (eqb (length c.fits) 1))
+  prefer_first : (h : Choice) → T (not (single h)) → preferred (Some (weight_of h)) (weight_of c) ≡ weight_of (cond (single c) c h)
+  prefer_first h s = ap (λ (b : Bool). cond (b || not (single c)) (weight_of h) (weight_of c)) (T_isnt (single h) (T_not (single h) s)) ∙ go (single c)
     where
-      go : (b : Bool) → cond b (held_of c) (held_of h) ≡ held_of (cond b c h)
-      go true = refl
-      go false = refl
-
-  prefer_new : preferred (held_of (chosen [])) (held_of c) ≡ held_of c
-  unfolding preferred chosen lowest keep few
-  prefer_new = go (eqb (few (length c.fits)) 1)
-    where
-      go : (b : Bool) → cond b (held_of c) (held_of c) ≡ held_of c
+      go : (b : Bool) → cond (not b) (weight_of h) (weight_of c) ≡ weight_of (cond b c h)
       go true = refl
       go false = refl
 
@@ -163,9 +166,13 @@ module _ (c : Choice) (o : Open c) where
       go true = refl
       go false = refl
 
-  pub held_new : (cs : List Choice) → All Open cs → held_of (chosen (cs ++ (c ∷ []))) ≡ preferred (held_of (chosen cs)) (held_of c)
-  unfolding chosen lowest
-  held_new [] a = ap held_of chosen_one ∙ sym prefer_new
+  -- h is held of cs, and so it is what they weigh
+  holding : (cs : List Choice) (h : Choice) → Open h → chosen cs ≡ h → (w : Weight) → preferred (Some (weight_of h)) (weight_of c) ≡ w → Some w ≡ Some (preferred (held_of (chosen cs)) (weight_of c))
+  holding cs h p e w q = ap Some (sym q) ∙ ap (λ (x : Option Weight). Some (preferred x (weight_of c))) (sym (held_open h p) ∙ ap held_of (sym e))
+
+  held_new : (cs : List Choice) → All Open cs → held_of (chosen (cs ++ (c ∷ []))) ≡ Some (preferred (held_of (chosen cs)) (weight_of c))
+  unfolding chosen lowest keep
+  held_new [] a = ap held_of chosen_one ∙ held_open c o
   held_new (x ∷ xs) a = ⊎_elim many some (eq-zero-or-pos (length (keep single cs)))
     where
       cs : List Choice
@@ -175,46 +182,33 @@ module _ (c : Choice) (o : Open c) where
       more = ap (λ (l : List Choice). l ++ (cs ++ (c ∷ []))) (keep_append single cs (c ∷ [])) ∙ append_assoc (keep single cs) (keep single (c ∷ [])) (cs ++ (c ∷ []))
 
       -- one with exactly one land is held
-      some : 1 ≤ length (keep single cs) → held_of (chosen (cs ++ (c ∷ []))) ≡ preferred (held_of (chosen cs)) (held_of c)
+      some : 1 ≤ length (keep single cs) → held_of (chosen (cs ++ (c ∷ []))) ≡ Some (preferred (held_of (chosen cs)) (weight_of c))
       some h =
+          let first = lowest (keep single cs) in
+          let s = lowest_single cs h in
           ap (λ (l : List Choice). held_of (lowest l)) more
           ∙ ap held_of (lowest_first (keep single cs) (keep single (c ∷ []) ++ (cs ++ (c ∷ []))) h)
-          ∙ sym (prefer_held (lowest (keep single cs)) (lowest_single cs h))
-          ∙ ap (λ (y : Choice). preferred (held_of y) (held_of c)) (sym (lowest_first (keep single cs) cs h))
+          ∙ held_open first (open_single first s)
+          ∙ holding cs first (open_single first s) (lowest_first (keep single cs) cs h) (weight_of first) (prefer_held first s)
 
       -- none has exactly one, and the lowest is held
-      many : length (keep single cs) ≡ 0 → held_of (chosen (cs ++ (c ∷ []))) ≡ preferred (held_of (chosen cs)) (held_of c)
+      many : length (keep single cs) ≡ 0 → held_of (chosen (cs ++ (c ∷ []))) ≡ Some (preferred (held_of (chosen cs)) (weight_of c))
       many e =
           let k : keep single cs ≡ [] = none_kept single cs (keep_none single cs e) in
+          let later = cond (single c) c x in
           ap (λ (l : List Choice). held_of (lowest l)) (more ∙ ap (λ (l : List Choice). l ++ (keep single (c ∷ []) ++ (cs ++ (c ∷ [])))) k)
           ∙ ap held_of (keep_one (cs ++ (c ∷ [])))
-          ∙ sym (prefer_first x a.0 (keep_none single cs e).0)
-          ∙ ap (λ (l : List Choice). preferred (held_of (lowest (l ++ cs))) (held_of c)) (sym k)
+          ∙ held_open later (cond_cases Open (single c) (λ t. o) (λ t. a.0))
+          ∙ holding cs x a.0 (ap (λ (l : List Choice). lowest (l ++ cs)) k) (weight_of later) (prefer_first x (keep_none single cs e).0)
 
--- ---- what is held, as the code decides it
-
-module _ (h n : Held) where
-  pub keeps_single : h.fits ≡ 1 → h ≡ preferred h n
-  unfolding preferred
-  keeps_single e = sym (rw (eqb_yes h.fits 1 e))
-
-  pub takes_single : h.fits ≢ 1 → n.fits ≡ 1 → n ≡ preferred h n
-  unfolding preferred
-  takes_single d e = sym (rw (eqb_no h.fits 1 d, eqb_yes n.fits 1 e))
-
-  pub takes_first : h.fits ≢ 1 → n.fits ≢ 1 → h.fits ≡ 0 → n ≡ preferred h n
-  unfolding preferred
-  takes_first d e z = sym (rw (eqb_no h.fits 1 d, eqb_no n.fits 1 e, eqb_yes h.fits 0 z))
-
-  pub keeps_first : h.fits ≢ 1 → n.fits ≢ 1 → h.fits ≢ 0 → h ≡ preferred h n
-  unfolding preferred
-  keeps_first d e z = sym (rw (eqb_no h.fits 1 d, eqb_no n.fits 1 e, eqb_no h.fits 0 z))
+  -- the weight w of c, told
+  pub held_more : (k : ℕ) → c.fragment.name ≡ k → (w : Weight) → Some w ≡ weighed k c.fits → (cs : List Choice) → All Open cs → (h : Option Weight) → h ≡ held_of (chosen cs)
+      → Some (preferred h w) ≡ held_of (chosen (cs ++ (c ∷ [])))
+  held_more k n w e cs a h q =
+      ap (λ (u : Weight). Some (preferred h u)) (some_is w (weight_of c) (e ∙ ap (λ (m : ℕ). weighed m c.fits) (sym n) ∙ held_open c o))
+      ∙ ap (λ (x : Option Weight). Some (preferred x (weight_of c))) q ∙ sym (held_new cs a)
 
 -- ---- the three answers
-
--- the number of ports, counted elsewhere
-pub told_as : (v w : ℕ) (ends : List ℕ) (play : List Bool) (t : List ℕ) (ls : List (List ℕ)) (r : Told) → v ≡ w → r ≡ verdict_of (judge v ends play (state_of t ls)) → r ≡ verdict_of (judge w ends play (state_of t ls))
-told_as v w ends play t ls r e h = h ∙ ap (λ (n : ℕ). verdict_of (judge n ends play (state_of t ls))) e
 
 module _ (v : ℕ) (ends : List ℕ) (play : List Bool) (t : List ℕ) (ls : List (List ℕ)) where
   abbrev lp : List Bool
@@ -255,10 +249,18 @@ module _ (v : ℕ) (ends : List ℕ) (play : List Bool) (t : List ℕ) (ls : Lis
       sym (ap (λ (l : List Choice). verdict_of (stuck_or l (ready (chosen (map choice fs ++ (choice f ∷ gs)))))) first) ∙ judged e (map choice fs ++ (choice f ∷ gs)) cut
 
   -- every fragment has an admissible land
-  pub ready_told : all_laid v ends play t ≡ false → (fs : List Fragment) → fs ≡ total → All Open (map choice fs) → (h : Held) → h ≡ held_of (chosen (map choice fs))
-      → Ready (record { name = h.name; land = h.land }) ≡ verdict_of (judge v ends play (state_of t ls))
+  pub ready_told : all_laid v ends play t ≡ false → (fs : List Fragment) → fs ≡ total → All Open (map choice fs) → (w : Weight) → Some w ≡ held_of (chosen (map choice fs))
+      → Ready w.choice ≡ verdict_of (judge v ends play (state_of t ls))
   unfolding stuck_or
-  ready_told e fs q a h r =
-      ap (λ (x : Held). Ready (record { name = x.name; land = x.land })) r
+  ready_told e fs q a w r =
+      ap Ready (weighed_choice (chosen (map choice fs)).fragment.name (chosen (map choice fs)).fits w r)
       ∙ sym (ap (λ (l : List Choice). verdict_of (stuck_or l (ready (chosen (map choice fs))))) (none_kept without (map choice fs) (without_all (map choice fs) a)))
       ∙ judged e (map choice fs) (ap (map choice) (sym q))
+
+  -- and there is one, so that something is held
+  pub some_held : all_laid v ends play t ≡ false → (fs : List Fragment) → fs ≡ total → All Open (map choice fs) → None ≡ held_of (chosen (map choice fs)) → ⊥
+  unfolding choices
+  some_held e fs q a r =
+      let some : 1 ≤ length (map choice total) = choices_some v ends play (state_of t ls) (rw e tt) in
+      let chosen_open : Open (chosen (map choice fs)) = chosen_in Open (map choice fs) a (omega (arith, some, ap (λ (gs : List Fragment). length (map choice gs)) q)) in
+      not-suc-le-zero {n = 0} (omega (arith, chosen_open, weighed_none (chosen (map choice fs)).fragment.name (chosen (map choice fs)).fits r))

@@ -12,14 +12,14 @@ use Prim.Native.Nat.{ℕ, ◌+◌, ◌-◌, ◌≤◌, ◌<◌}
 use native.Mathlib.Numerals.{add-one}
 use native.Mathlib.Omega.{arith}
 use lib.ListN.{length, get_or, set, take, drop, length-set, drop_of_length-le}
-use lib.Seq.{take-suc-set, drop-cons, get_or-take, length-take-le}
+use lib.Seq.{take-suc-set, drop-cons}
 use Rattle.rules.specs.Lists.{from, keep, at}
 use Rattle.rules.specs.Terms.{leaves, enters, darts_at}
 use Rattle.rules.specs.Ways.{in_play}
 use Rattle.reach.specs.Neighbours.{first_dart, more_dart}
 use Rattle.reach.proofs.Chains.{chain, chain_none, chain_first, chain_more, first_leaves, more_leaves}
 use Rattle.fragment.specs.Fragments.{touch, touch_all, touch_from}
-use Rattle.fragment.proofs.Rising.{from_cut, from_over, from_whole}
+use Rattle.fragment.proofs.Rising.{from_cut, from_over}
 use Rattle.fragment.proofs.Touching.{length_touch, length_touch_all}
 
 -- ---- one dart
@@ -71,28 +71,22 @@ pub record Felt (ends : List ℕ) (play lp : List Bool) (ps : List ℕ) (s₀ s 
   pub rest : touch_from ends play lp (drop i ps) s ≡ touch_from ends play lp ps s₀
   pub long : length s ≡ length s₀
 
-module _ (ends : List ℕ) (play lp : List Bool) (queue : List ℕ) (n : ℕ) (b : n ≤ length queue) (s₀ : List Bool) where
-  pub felt_start : Felt ends play lp (take n queue) s₀ s₀ 0
-  felt_start = record { most = omega arith; rest = refl; long = refl }
-
-  pub felt_step : (s : List Bool) (i : ℕ) → Felt ends play lp (take n queue) s₀ s i → i < n → (s' : List Bool) (p : ℕ) → p ≡ get_or queue i 0
-      → s' ≡ touch_all ends play lp (darts_at ends p) s → Felt ends play lp (take n queue) s₀ s' (i + 1)
+module _ (ends : List ℕ) (play lp : List Bool) (ps : List ℕ) (s₀ : List Bool) where
+  pub felt_step : (s : List Bool) (i : ℕ) → Felt ends play lp ps s₀ s i → i < length ps → (s' : List Bool)
+      → s' ≡ touch_all ends play lp (darts_at ends (get_or ps i 0)) s → Felt ends play lp ps s₀ s' (i + 1)
   unfolding touch_from
-  felt_step s i w h s' p e q = record {
-    most = omega (arith, length-take-le n queue b);
-    rest =
-        ap (touch_from ends play lp (drop (i + 1) (take n queue))) (q ∙ ap (λ (x : ℕ). touch_all ends play lp (darts_at ends x) s) (e ∙ sym (get_or-take n queue i 0 h)))
-        ∙ ap (λ (ps : List ℕ). touch_from ends play lp ps s) (sym front)
-        ∙ w.rest;
-    long = ap length q ∙ length_touch_all ends play lp (darts_at ends p) s ∙ w.long;
+  felt_step s i w h s' q = record {
+    most = omega arith;
+    rest = ap (touch_from ends play lp (drop (i + 1) ps)) q ∙ ap (λ (qs : List ℕ). touch_from ends play lp qs s) (sym front) ∙ w.rest;
+    long = ap length q ∙ length_touch_all ends play lp (darts_at ends (get_or ps i 0)) s ∙ w.long;
   }
     where
-      front : drop i (take n queue) ≡ get_or (take n queue) i 0 ∷ drop (i + 1) (take n queue)
-      front = drop-cons (take n queue) i 0 (omega (arith, length-take-le n queue b)) ∙ ap (λ (j : ℕ). get_or (take n queue) i 0 ∷ drop j (take n queue)) (sym (add-one i))
+      front : drop i ps ≡ get_or ps i 0 ∷ drop (i + 1) ps
+      front = drop-cons ps i 0 h ∙ ap (λ (j : ℕ). get_or ps i 0 ∷ drop j ps) (sym (add-one i))
 
-  pub felt_end : (s : List Bool) (i : ℕ) → Felt ends play lp (take n queue) s₀ s i → n ≤ i → s ≡ touch_from ends play lp (take n queue) s₀
+  pub felt_end : (s : List Bool) (i : ℕ) → Felt ends play lp ps s₀ s i → length ps ≤ i → s ≡ touch_from ends play lp ps s₀
   unfolding touch_from
-  felt_end s i w h = ap (λ (ps : List ℕ). touch_from ends play lp ps s) (sym (drop_of_length-le (take n queue) {i = i} (omega (arith, length-take-le n queue b)))) ∙ w.rest
+  felt_end s i w h = ap (λ (qs : List ℕ). touch_from ends play lp qs s) (sym (drop_of_length-le ps {i = i} h)) ∙ w.rest
 
 -- ---- all ports, rising
 
@@ -103,9 +97,6 @@ pub record Collected (f : ℕ → Bool) (v : ℕ) (size : ℕ) (out : List ℕ) 
   pub rest : take n out ++ keep f (from p (v - p)) ≡ keep f (from 0 v)
 
 module _ (f : ℕ → Bool) (v size : ℕ) (room : v ≤ size) where
-  pub collected_start : (out : List ℕ) → length out ≡ size → Collected f v size out 0 0
-  collected_start out e = record { most = omega arith; few = omega arith; long = e; rest = ap (keep f) (from_whole v) }
-
   collected_in : (out : List ℕ) (n p : ℕ) → Collected f v size out n p → p < v → f p ≡ true → Collected f v size (set out n p) (n + 1) (p + 1)
   unfolding keep
   collected_in out n p c h e = record {

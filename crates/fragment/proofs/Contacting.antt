@@ -1,12 +1,12 @@
 -- The contacts that are left for the fragment of channel k, as the code finds them: by a flood from its seed port and what the ports met touch; or, where it is a single channel, by its two ends.
 --   cs               the contacts of the fragment of channel k
--- inside_reached: the fragment's ports are what a flood from the seed port reaches. spread_flood, spread_none: the fragment has spread. rooted_left, single_left: the contacts that are left in the two cases. both_rising, both_falling: two ends, written in order. two_read: the first two contacts.
+-- inside_reached: the fragment's ports are what a flood from the seed port reaches. spread_flood, spread_none: the fragment has spread. rooted_left, single_left: the contacts that are left in the two cases. both_rising: two ends, the smaller first. two_read: the first two contacts.
 -- Assumes nothing.
 use mathlib.Core.Path.{◌≡◌, refl, sym, ap, ◌∙◌, subst}
 use mathlib.Core.Logic.{◌≢◌, ⊎_elim}
 use mathlib.Core.Bool.{Bool, true, false, cond, not}
 use mathlib.Core.List.{List, [], ◌∷◌}
-use Prim.Native.Nat.{ℕ, ◌+◌, ◌*◌, ◌≤◌, ◌<◌}
+use Prim.Native.Nat.{ℕ, ◌+◌, ◌*◌, ◌≤◌, ◌<◌, min, max}
 use native.Mathlib.Nat.{not-suc-le-zero}
 use native.Mathlib.Decide.{dec_lt}
 use native.Mathlib.Omega.{arith}
@@ -28,22 +28,21 @@ use Rattle.laws.proofs.Lists.{place_count}
 use Rattle.reach.specs.Floods.{Sized, joined, around, Flooded}
 use Rattle.reach.proofs.Meeting.{enters_in}
 use Rattle.reach.proofs.Around.{length_joined}
-use Rattle.fragment.specs.Fragments.{Loopless, seed_port, touch_from, rising, Shut, Spread, Contacts}
+use Rattle.fragment.specs.Fragments.{Loopless, touch_from, rising, Shut, Spread, Contacts}
 use Rattle.fragment.specs.Rounds.{two_of}
-use Rattle.fragment.proofs.Spreading.{same_set, seed_only, inside_iff, inside_none, same_reach, reverse_first}
+use Rattle.fragment.proofs.Spreading.{seed_place, same_set, seed_only, inside_iff, inside_none, same_reach, reverse_first}
 use Rattle.fragment.proofs.Marking.{joined_at}
 use Rattle.fragment.proofs.Touching.{length_touch_from, rooted_contacts, single_rising, single_falling}
 
-pub inside_reached : (v : ℕ) (ends : List ℕ) (play lp : List Bool) (k : ℕ) → inside v ends play lp k ≡ reached v ends play (unlaid lp) (seed_port v ends lp k)
+pub inside_reached : (v : ℕ) (ends : List ℕ) (play lp : List Bool) (k : ℕ) → inside v ends play lp k ≡ reached v ends play (unlaid lp) (seed_place v ends lp k)
 unfolding reached
 inside_reached v ends play lp k = ap (iter (larger ends (in_play play) (unlaid lp)) v) (seed_only v ends play lp k)
 
--- a number that stands in a list stands at one of its places
 -- ---- a fragment spreads
 
 -- from its seed port, by a flood
 module _ (v : ℕ) (ends : List ℕ) (play lp : List Bool) (sized : Sized v ends play) (lpv : length lp ≡ v) (marks : List Bool) (shut : Shut ends play lp marks)
-    (k : ℕ) (p : ℕ) (e : p ≡ seed_port v ends lp k) (inn : p < v) (clear : at marks (seed_port v ends lp k) ≡ false) where
+    (k : ℕ) (p : ℕ) (e : p ≡ seed_place v ends lp k) (inn : p < v) (clear : at marks (seed_place v ends lp k) ≡ false) where
   pub clear_here : at marks p ≡ false
   clear_here = ap (at marks) e ∙ clear
 
@@ -63,7 +62,7 @@ module _ (v : ℕ) (ends : List ℕ) (play lp : List Bool) (sized : Sized v ends
   }
 
 -- over no port, where both ends of channel k are laid
-module _ (v : ℕ) (ends : List ℕ) (play lp : List Bool) (sized : Sized v ends play) (marks : List Bool) (long : length marks ≡ v) (k : ℕ) (out : v ≤ seed_port v ends lp k) where
+module _ (v : ℕ) (ends : List ℕ) (play lp : List Bool) (sized : Sized v ends play) (marks : List Bool) (long : length marks ≡ v) (k : ℕ) (out : v ≤ seed_place v ends lp k) where
   joined_none : marks ≡ joined marks (inside v ends play lp k)
   joined_none =
       same_set marks (joined marks (inside v ends play lp k)) (sym (length_joined marks (inside v ends play lp k)))
@@ -97,20 +96,20 @@ module _ (v : ℕ) (ends : List ℕ) (play lp : List Bool) (sized : Sized v ends
   spread_ports i h = omega (arith, at_lt (inside v ends play lp k) (get_or queue i 0) (in_queue i h), length_inside v ends play lp k)
 
   -- there is a port where and only where there is a seed port
-  some_seed : n ≢ 0 → seed_port v ends lp k < v
-  some_seed h = go (dec_lt (seed_port v ends lp k) v)
+  some_seed : n ≢ 0 → seed_place v ends lp k < v
+  some_seed h = go (dec_lt (seed_place v ends lp k) v)
     where
-      go : Dec (seed_port v ends lp k < v) → seed_port v ends lp k < v
+      go : Dec (seed_place v ends lp k < v) → seed_place v ends lp k < v
       go (yes b) = b
       go (no b) = absurd (inside_none v ends play lp sized k (get_or queue 0 0) (omega arith) (in_queue 0 (omega arith)))
 
-  pub none_seed : n ≡ 0 → v ≤ seed_port v ends lp k
+  pub none_seed : n ≡ 0 → v ≤ seed_place v ends lp k
   unfolding count
-  none_seed e = go (dec_lt (seed_port v ends lp k) v)
+  none_seed e = go (dec_lt (seed_place v ends lp k) v)
     where
-      go : Dec (seed_port v ends lp k < v) → v ≤ seed_port v ends lp k
+      go : Dec (seed_place v ends lp k < v) → v ≤ seed_place v ends lp k
       go (yes b) =
-          let p = seed_port v ends lp k in
+          let p = seed_place v ends lp k in
           let none : count p (take n queue) ≡ 0 = ap (λ (m : ℕ). count p (take m queue)) e in
           absurd (not-suc-le-zero {n = 0} (omega (arith, none, listed_inside p, flag_T (at (inside v ends play lp k) p) ((inside_iff v ends play lp sized k b p).1 ([], refl)))))
       go (no b) = omega arith
@@ -139,7 +138,7 @@ module _ (v : ℕ) (ends : List ℕ) (play lp : List Bool) (sized : Sized v ends
         let ne = loopless (2 * k) dart in
         omega arith
 
-    single_both : v ≤ seed_port v ends lp k → contacts_of v ends play lp (fragment_at v ends play lp k) ≡ rising (leaves ends (2 * k)) (enters ends (2 * k))
+    single_both : v ≤ seed_place v ends lp k → contacts_of v ends play lp (fragment_at v ends play lp k) ≡ rising (leaves ends (2 * k)) (enters ends (2 * k))
     unfolding rising
     single_both out = go (dec_lt (leaves ends (2 * k)) (enters ends (2 * k)))
       where
@@ -161,13 +160,17 @@ module _ (ends : List ℕ) (k a b : ℕ) (first : a ≡ get_or ends (2 * k) 0) (
   unfolding leaves enters
   ends_read = rw (reverse_first k, first, second)
 
-  pub both_rising : a < b → a ∷ b ∷ [] ≡ rising (leaves ends (2 * k)) (enters ends (2 * k))
+  -- the smaller and the larger
+  pub both_rising : (x y : ℕ) → x ≡ min a b → y ≡ max a b → x ∷ y ∷ [] ≡ rising (leaves ends (2 * k)) (enters ends (2 * k))
   unfolding rising
-  both_rising h = sym (ends_read ∙ rw (lt-ltb a b h))
+  both_rising x y e f = go (dec_lt a b)
+    where
+      pair : (u w : ℕ) → x ≡ u → y ≡ w → x ∷ y ∷ [] ≡ u ∷ w ∷ []
+      pair u w p q = rw (p, q)
 
-  pub both_falling : b ≤ a → b ∷ a ∷ [] ≡ rising (leaves ends (2 * k)) (enters ends (2 * k))
-  unfolding rising
-  both_falling h = sym (ends_read ∙ rw (le-ltb a b h))
+      go : Dec (a < b) → x ∷ y ∷ [] ≡ rising (leaves ends (2 * k)) (enters ends (2 * k))
+      go (yes h) = pair a b (omega (arith, e)) (omega (arith, f)) ∙ sym (ends_read ∙ rw (lt-ltb a b h))
+      go (no h) = pair b a (omega (arith, e)) (omega (arith, f)) ∙ sym (ends_read ∙ rw (le-ltb a b (omega arith)))
 
 -- ---- the two smallest contacts
 
@@ -177,9 +180,6 @@ module _ (v : ℕ) (ends : List ℕ) (play lp : List Bool) (k : ℕ) (marks mark
 
   long : length cs ≡ r
   long = sym (ap length c.list) ∙ length-take-le r contacts c.most
-
-  pub contacts_room : 2 ≤ length cs → 2 ≤ length contacts
-  contacts_room h = omega (arith, long, c.most)
 
   read : (i : ℕ) → i < length cs → get_or contacts i 0 ≡ get_or cs i 0
   read i h = sym (get_or-take r contacts i 0 (omega (arith, long))) ∙ ap (λ (l : List ℕ). get_or l i 0) c.list

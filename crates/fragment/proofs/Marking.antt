@@ -2,7 +2,7 @@
 --   holding q f      the fragment f has port q
 --   p                the seed port of channel k
 -- marked_shut: such marks are shut. marked_within, settled_over, settled_marked: a channel in play is in one of these fragments exactly where its seed port is marked, so that this tells whether it is settled.
--- marked_first, marked_later, marked_add: the marks at the beginning, at a later channel, and past a channel that names a fragment. unsettled: what is known of such a channel. laid_shut, laid_seed: where the laid ports alone are marked.
+-- marked_first, marked_later, marked_add: the marks at the beginning, at a later channel, and past a channel that names a fragment. unsettled: what is known of such a channel. laid_seed: where the laid ports alone are marked.
 -- Assumes nothing.
 use mathlib.Core.Path.{◌≡◌, refl, sym, ap, ◌∙◌, subst}
 use mathlib.Core.Logic.{⊎_elim}
@@ -25,8 +25,8 @@ use Rattle.laws.proofs.Runs.{channel_of}
 use Rattle.laws.proofs.Fragments.{unlaid, inside, length_inside, inside_unlaid, within_cases, within_leaves, within_enters}
 use Rattle.reach.specs.Floods.{Sized, joined}
 use Rattle.reach.proofs.Around.{at_joined, length_joined}
-use Rattle.fragment.specs.Fragments.{over, seed_port, Named, Marked, Shut}
-use Rattle.fragment.proofs.Spreading.{seed_cases, seed_first, seed_second, seed_unlaid, inside_step, inside_back}
+use Rattle.fragment.specs.Fragments.{over, Unmarked, Named, Marked, Shut}
+use Rattle.fragment.proofs.Spreading.{seed_place, seed_cases, seed_first, seed_second, seed_unlaid, place_unmarked, inside_step, inside_back}
 
 -- ---- lists of fragments
 
@@ -96,7 +96,7 @@ module _ (v : ℕ) (ends : List ℕ) (play lp : List Bool) (sized : Sized v ends
     -- ---- a channel in play is in one of the fragments where its seed port is marked
 
     abbrev p : ℕ
-    p = seed_port v ends lp k
+    p = seed_place v ends lp k
 
     module _ (o : T (at play k)) where
       own : T (in_play play (2 * k))
@@ -158,12 +158,10 @@ module _ (v : ℕ) (ends : List ℕ) (play lp : List Bool) (sized : Sized v ends
 
   -- ---- the laid ports alone are marked
 
-  pub laid_shut : (marks : List Bool) → marks ≡ lp → Shut ends play lp marks
-  laid_shut marks e = rw e (record { long = refl; holds = λ p t. t; shut = λ d o a b t. absurd (T_not (at lp (leaves ends d)) a t) })
-
-  pub laid_seed : (marks : List Bool) (k : ℕ) → marks ≡ lp → at marks (seed_port v ends lp k) ≡ false
+  pub laid_seed : (marks : List Bool) (k : ℕ) → marks ≡ lp → Unmarked ends lp marks k
   laid_seed marks k e =
-      ap (λ (m : List Bool). at m (seed_port v ends lp k)) e ∙ T_isnt (at lp (seed_port v ends lp k)) (T_not (at lp (seed_port v ends lp k)) (seed_unlaid v ends play lp k lpv))
+      place_unmarked v ends play lp k marks
+      (ap (λ (m : List Bool). at m (seed_place v ends lp k)) e ∙ T_isnt (at lp (seed_place v ends lp k)) (T_not (at lp (seed_place v ends lp k)) (seed_unlaid v ends play lp k lpv)))
 
   -- ---- from channel to channel
 

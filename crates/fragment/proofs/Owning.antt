@@ -1,10 +1,10 @@
 -- The channels of a fragment as flags, one for each channel, and its ports as flags, one for each port.
 --   own              channel j is one of the fragment that k names and that has the ports `ports`
 --   inner p          port p is marked, and not laid
--- own_out, own_name, own_first, own_second: the four tests for one channel. inner_out, inner_in: the two tests for one port. inner_is: the ports that are marked and not laid, where the fragment has spread over the laid ports. fragment_is, own_as: the fragment, put together.
+-- own_out, own_first, own_second: the tests for one channel. inner_is: the ports that are marked and not laid, where the fragment has spread over the laid ports. fragment_is, own_as: the fragment, put together.
 -- Assumes nothing.
-use mathlib.Core.Path.{◌≡◌, refl, sym, ap, ◌∙◌, subst, fun_ext}
-use mathlib.Core.Logic.{◌≢◌, ⊎_elim}
+use mathlib.Core.Path.{◌≡◌, sym, ap, ◌∙◌, subst, fun_ext}
+use mathlib.Core.Logic.{◌≢◌, ◌⊎◌, ⊎_elim}
 use mathlib.Core.Bool.{Bool, true, false, not, ◌&&◌, ◌||◌}
 use mathlib.Core.List.{List, map}
 use Prim.Native.Nat.{ℕ, ◌+◌, ◌*◌}
@@ -31,28 +31,20 @@ module _ (v : ℕ) (ends : List ℕ) (play : List Bool) (k : ℕ) (ports : List 
   unfolding within
   own_out o = rw (channel_of j, o)
 
-  pub own_name : at play j ≡ true → j ≡ k → own ≡ true
-  unfolding within
-  own_name o e = rw (channel_of j, o, eqb_yes j k e)
-
-  module _ (o : at play j ≡ true) (n : j ≢ k) (a : ℕ) (first : a ≡ get_or ends (2 * j) 0) where
-    pub own_first : at ports a ≡ true → own ≡ true
-    unfolding within leaves
-    own_first i = rw (channel_of j, o, eqb_no j k n, ← first, i)
-
-    pub own_second : at ports a ≡ false → (b : ℕ) → b ≡ get_or ends (2 * j + 1) 0 → own ≡ at ports b
+  -- x tells whether j is the name, or its first end is inside
+  module _ (o : at play j ≡ true) (x : Bool) (told : ((j ≡ k) × (x ≡ true)) ⊎ ((j ≢ k) × (x ≡ at ports (get_or ends (2 * j) 0)))) where
+    own_either : own ≡ (x || at ports (get_or ends (2 * j + 1) 0))
     unfolding within leaves enters
-    own_second i b second = rw (channel_of j, o, eqb_no j k n, ← first, i, reverse_first j, ← second)
+    own_either =
+        ⊎_elim (λ w. rw (channel_of j, o, eqb_yes j k w.0, w.1)) (λ w. rw (channel_of j, o, eqb_no j k w.0, w.1, reverse_first j)) told
+
+    pub own_first : x ≡ true → own ≡ true
+    own_first e = own_either ∙ rw e
+
+    pub own_second : x ≡ false → own ≡ at ports (get_or ends (2 * j + 1) 0)
+    own_second e = own_either ∙ rw e
 
 -- ---- all ports
-
-pub inner_out : (m l : Bool) → l ≡ true → (m && not l) ≡ false
-inner_out true l e = rw e
-inner_out false l e = refl
-
-pub inner_in : (m l : Bool) → l ≡ false → (m && not l) ≡ m
-inner_in true l e = rw e
-inner_in false l e = refl
 
 module _ (v : ℕ) (ends : List ℕ) (play lp : List Bool) (lpv : length lp ≡ v) (k : ℕ) (marks : List Bool) (queue : List ℕ) (n : ℕ) (s : Spread v ends play lp k lp marks queue n) where
   abbrev inner : ℕ → Bool
@@ -82,8 +74,7 @@ pub fragment_is : (v : ℕ) (ends : List ℕ) (play lp : List Bool) (k : ℕ) (p
 unfolding fragment_at
 fragment_is v ends play lp k ports e = ap (λ (r : List Bool). record { name = k; ports = r }) e
 
--- its channels, the number of ports being counted elsewhere
-pub own_as : (v w : ℕ) (ends : List ℕ) (play : List Bool) (f g : Fragment) (own : List Bool) → v ≡ w → f ≡ g
-    → own ≡ map (λ j. within v ends play f (2 * j)) (from 0 (length play)) → own ≡ map (λ j. within w ends play g (2 * j)) (from 0 (length play))
-own_as v w ends play f g own e q h =
-    h ∙ ap (λ (n : ℕ). map (λ j. within n ends play f (2 * j)) (from 0 (length play))) e ∙ ap (λ (x : Fragment). map (λ j. within w ends play x (2 * j)) (from 0 (length play))) q
+-- its channels
+pub own_as : (v : ℕ) (ends : List ℕ) (play : List Bool) (f g : Fragment) (flags : List Bool) → f ≡ g
+    → flags ≡ map (λ j. within v ends play f (2 * j)) (from 0 (length play)) → flags ≡ map (λ j. within v ends play g (2 * j)) (from 0 (length play))
+own_as v ends play f g flags q h = h ∙ ap (λ (x : Fragment). map (λ j. within v ends play x (2 * j)) (from 0 (length play))) q

@@ -1,7 +1,7 @@
 -- The contacts of a fragment: the laid ports that darts in play enter from its ports; or, where it is one channel between two laid ports, the two ends.
 --   Touches ends play lp z d          dart d is in play and enters the laid port z
 --   test v ends play lp sized k p     port p is a contact of the fragment of channel k
--- darts_leave, leaving_darts: the darts of a port. touch_.., touch_all_.., touch_from_..: what is touched. rooted_contacts: the contacts, read off what is touched. keep_..: a list that keeps two numbers. single_rising, single_falling: the contacts of a single channel.
+-- touch_.., touch_all_.., touch_from_..: what is touched. rooted_contacts: the contacts, read off what is touched. keep_..: a list that keeps two numbers. single_rising, single_falling: the contacts of a single channel.
 -- Assumes nothing.
 use mathlib.Core.Path.{◌≡◌, refl, sym, ap, ◌∙◌, subst, fun_ext}
 use mathlib.Core.Logic.{◌≢◌, ◌⊎◌, inl, inr, ⊎_elim}
@@ -27,10 +27,8 @@ use Rattle.laws.proofs.Fragments.{inside, inside_unlaid, of_fragment, of_cases, 
 use Rattle.reach.specs.Floods.{Sized}
 use Rattle.reach.proofs.Meeting.{enters_in}
 use Rattle.reach.proofs.Flooding.{darts_leave, leaving_darts}
-use Rattle.fragment.specs.Fragments.{seed_port, touch, touch_all, touch_from}
-use Rattle.fragment.proofs.Spreading.{seed_cases, seed_first, seed_second, seed_neither, inside_iff, inside_none}
-
--- ---- the darts of a port
+use Rattle.fragment.specs.Fragments.{touch, touch_all, touch_from}
+use Rattle.fragment.proofs.Spreading.{seed_place, seed_cases, seed_first, seed_second, seed_neither, inside_iff, inside_none}
 
 -- ---- what is touched
 
@@ -128,9 +126,9 @@ module _ (v : ℕ) (ends : List ℕ) (play lp : List Bool) (sized : Sized v ends
       (count_from d 0 (length ends) (omega arith) (omega (arith, play_dart ends play sized.channels d (of_play v ends play lp k d h))))
       (T_and (of_fragment v ends play lp k d) (eqb (leaves ends d) p) h (eq_eqb (leaves ends d) p e)))
 
-  module _ (inn : seed_port v ends lp k < v) where
-    seed_inside : T (at (inside v ends play lp k) (seed_port v ends lp k))
-    seed_inside = (inside_iff v ends play lp sized k inn (seed_port v ends lp k)).1 ([], refl)
+  module _ (inn : seed_place v ends lp k < v) where
+    seed_inside : T (at (inside v ends play lp k) (seed_place v ends lp k))
+    seed_inside = (inside_iff v ends play lp sized k inn (seed_place v ends lp k)).1 ([], refl)
 
     -- a dart of the fragment that leaves a laid port enters one of its ports
     enters_inside : (d : ℕ) → T (of_fragment v ends play lp k d) → T (at lp (leaves ends d)) → T (at (inside v ends play lp k) (enters ends d))
@@ -139,21 +137,21 @@ module _ (v : ℕ) (ends : List ℕ) (play lp : List Bool) (sized : Sized v ends
         (λ e. ⊎_elim (λ i. absurd (T_not (at lp (leaves ends d)) (inside_unlaid v ends play lp k (leaves ends d) i) l)) (λ i. i) e)
         (of_cases v ends play lp k d h)
       where
-        own : (c : ℕ) → d ≡ c → seed_port v ends lp k ≡ enters ends c → T (at (inside v ends play lp k) (enters ends d))
+        own : (c : ℕ) → d ≡ c → seed_place v ends lp k ≡ enters ends c → T (at (inside v ends play lp k) (enters ends d))
         own c q e = subst (λ (p : ℕ). T (at (inside v ends play lp k) p)) (e ∙ ap (enters ends) (sym q)) seed_inside
 
-        other : (b : Bool) → at lp (enters ends (2 * k)) ≡ b → T (at lp (leaves ends (2 * k))) → seed_port v ends lp k ≡ enters ends (2 * k)
+        other : (b : Bool) → at lp (enters ends (2 * k)) ≡ b → T (at lp (leaves ends (2 * k))) → seed_place v ends lp k ≡ enters ends (2 * k)
         other true e a = absurd (not-suc-le-zero {n = 0} (omega (arith, seed_neither v ends play lp k a (rw e tt))))
         other false e a = seed_second v ends play lp k a (rw e tt)
 
-        first : T (at lp (leaves ends (2 * k))) → seed_port v ends lp k ≡ enters ends (2 * k)
+        first : T (at lp (leaves ends (2 * k))) → seed_place v ends lp k ≡ enters ends (2 * k)
         first a = other (at lp (enters ends (2 * k))) refl a
 
-        another : (b : Bool) → at lp (leaves ends (2 * k)) ≡ b → T (at lp (enters ends (2 * k))) → seed_port v ends lp k ≡ leaves ends (2 * k)
+        another : (b : Bool) → at lp (leaves ends (2 * k)) ≡ b → T (at lp (enters ends (2 * k))) → seed_place v ends lp k ≡ leaves ends (2 * k)
         another true e a = absurd (not-suc-le-zero {n = 0} (omega (arith, seed_neither v ends play lp k (rw e tt) a)))
         another false e a = seed_first v ends play lp k (rw e tt)
 
-        second : T (at lp (leaves ends (reverse (2 * k)))) → seed_port v ends lp k ≡ enters ends (reverse (2 * k))
+        second : T (at lp (leaves ends (reverse (2 * k)))) → seed_place v ends lp k ≡ enters ends (reverse (2 * k))
         second a = another (at lp (leaves ends (2 * k))) refl (subst (λ (p : ℕ). T (at lp p)) (leaves_reverse ends (2 * k)) a) ∙ sym (enters_reverse ends (2 * k))
 
     -- the contacts are what the darts of its ports touch
@@ -219,7 +217,7 @@ keep_two f v a b h k ta tb u =
     (keep_next f (suc a) (0 + v - suc a) b (omega arith) (omega arith) tb (λ p x y t. ⊎_elim (λ e. omega arith) (λ e. omega arith) (u p t))
     ∙ ap (λ (l : List ℕ). b ∷ l) (keep_past f (suc b) (suc a + (0 + v - suc a) - suc b) (λ p x t. ⊎_elim (λ e. omega arith) (λ e. omega arith) (u p t))))
 
-module _ (v : ℕ) (ends : List ℕ) (play lp : List Bool) (sized : Sized v ends play) (k : ℕ) (o : T (at play k)) (out : v ≤ seed_port v ends lp k) where
+module _ (v : ℕ) (ends : List ℕ) (play lp : List Bool) (sized : Sized v ends play) (k : ℕ) (o : T (at play k)) (out : v ≤ seed_place v ends lp k) where
   -- both ends are laid
   both_laid : T (at lp (leaves ends (2 * k))) × T (at lp (enters ends (2 * k)))
   both_laid =

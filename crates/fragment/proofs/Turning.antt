@@ -1,27 +1,26 @@
 -- What the turns say of darts, ports and channels: a read of a turn, the laid ports, and whether all is laid.
 --   Covering ends t v r d       what is left of the darts from d on makes of r all laid ports
---   Passing f n k               the numbers before k all pass the test f
--- same_default: a read inside a list. laid_read: a turn that is not the mark. over_out, over_in: one channel. covering_.., passing_..: the loops of `laid_ports` and `all_laid`.
+-- same_default: a read inside a list. laid_read: a turn that is not the mark. over_out, over_in: one channel. covering_..: the loop of `laid_ports`. all_over: all channels are laid where all are over.
 -- Assumes nothing.
 use mathlib.Core.Path.{◌≡◌, refl, sym, ap, ◌∙◌}
 use mathlib.Core.Logic.{◌⊎◌, inl, inr}
-use mathlib.Core.Bool.{Bool, true, false, cond, not, ◌&&◌, ◌||◌}
+use mathlib.Core.Bool.{Bool, true, false, cond, not, ◌||◌}
 use mathlib.Core.List.{List, [], ◌∷◌}
 use Prim.Native.Nat.{ℕ, zero, suc, ◌+◌, ◌-◌, ◌*◌, ◌≤◌, ◌<◌}
 use native.Mathlib.Nat.{not-suc-le-zero}
 use native.Mathlib.Omega.{arith}
 use lib.Dec.{eqb}
-use lib.ListN.{length, get_or, set, replicate, length-set, length-replicate}
+use lib.ListN.{length, get_or, set, replicate, length-set}
 use Rattle.rules.specs.Lists.{from, all, at}
 use Rattle.rules.specs.Terms.{leaves, laid, there, missing}
 use Rattle.rules.specs.Laying.{laid_ports, all_laid}
 use Rattle.laws.proofs.Tests.{cond_cases, or_false}
 use Rattle.fragment.specs.Fragments.{over}
-use Rattle.fragment.proofs.Rising.{from_cut, from_over, from_whole}
+use Rattle.fragment.proofs.Rising.{from_cut, from_over}
 
 -- ---- one turn
 
-pub same_default : (l : List ℕ) (i a b : ℕ) → i < length l → get_or l i a ≡ get_or l i b
+same_default : (l : List ℕ) (i a b : ℕ) → i < length l → get_or l i a ≡ get_or l i b
 same_default [] i a b h = absurd (not-suc-le-zero h)
 same_default (x ∷ l) zero a b h = refl
 same_default (x ∷ l) (suc i) a b h = same_default l i a b (omega arith)
@@ -36,13 +35,6 @@ pub record Covering (ends t : List ℕ) (v : ℕ) (r : List Bool) (d : ℕ) : Ty
   pub most : d ≤ length ends
   pub size : length r ≡ v
   pub rest : laid_ports ends t (from d (length ends - d)) r ≡ laid_ports ends t (from 0 (length ends)) (replicate v false)
-
-pub covering_start : (ends t : List ℕ) (v : ℕ) (r : List Bool) → r ≡ replicate v false → Covering ends t v r 0
-covering_start ends t v r e = record {
-  most = omega arith;
-  size = ap length e ∙ length-replicate v false;
-  rest = ap (λ (ds : List ℕ). laid_ports ends t ds r) (from_whole (length ends)) ∙ ap (laid_ports ends t (from 0 (length ends))) e;
-}
 
 covering_next : (ends t : List ℕ) (v : ℕ) (r : List Bool) (d : ℕ) (r' : List Bool) → Covering ends t v r d → d < length ends
     → r' ≡ cond (laid t d) (set r (leaves ends d) true) r → Covering ends t v r' (d + 1)
@@ -79,26 +71,6 @@ over_out play t k e = rw e (last (laid t (2 * k)))
 pub over_in : (play : List Bool) (t : List ℕ) (k : ℕ) → at play k ≡ true → over play t k ≡ laid t (2 * k)
 unfolding over
 over_in play t k e = rw e (or_false (laid t (2 * k)))
-
-pub record Passing (f : ℕ → Bool) (n k : ℕ) : Type 0 where
-  pub most : k ≤ n
-  pub rest : all f (from 0 n) ≡ all f (from k (n - k))
-
-pub passing_start : (f : ℕ → Bool) (n : ℕ) → Passing f n 0
-passing_start f n = record { most = omega arith; rest = ap (all f) (sym (from_whole n)) }
-
-pub passing_step : (f : ℕ → Bool) (n k : ℕ) → Passing f n k → k < n → f k ≡ true → Passing f n (k + 1)
-unfolding all
-passing_step f n k p h e =
-    record { most = omega arith; rest = p.rest ∙ ap (all f) (from_cut k n h) ∙ ap (λ (b : Bool). b && all f (from (k + 1) (n - (k + 1)))) e }
-
-pub passing_fails : (f : ℕ → Bool) (n k : ℕ) → Passing f n k → k < n → f k ≡ false → all f (from 0 n) ≡ false
-unfolding all
-passing_fails f n k p h e = p.rest ∙ ap (all f) (from_cut k n h) ∙ ap (λ (b : Bool). b && all f (from (k + 1) (n - (k + 1)))) e
-
-pub passing_end : (f : ℕ → Bool) (n k : ℕ) → Passing f n k → n ≤ k → all f (from 0 n) ≡ true
-unfolding all
-passing_end f n k p h = p.rest ∙ ap (all f) (from_over k n h)
 
 pub all_over : (v : ℕ) (ends : List ℕ) (play : List Bool) (t : List ℕ) → all_laid v ends play t ≡ all (over play t) (from 0 (length play))
 unfolding all_laid over

@@ -2,27 +2,34 @@
 --   Misses ls i      land i of ls does not visit every contact
 --   fits             the admissible lands
 -- fit_since: the lands that a search passes do not fit. fit_past: a search may begin behind lands that do not fit. first_found, next_most, second_found, passed_again: the two searches, begun behind lands that are passed.
--- first_most: the first search ends by the last land. weigh_none, weigh_one, weigh_more: the three answers. contacts_weigh: the weight of the contacts is the fragment's.
+-- fitting_some, fitting_none, fitting_end: what a search answers. first_most: the first search ends by the last land. weigh_none, weigh_some: what the fragment weighs. none_left, second_begins, told_again, weight_told: the same, by the answers. contacts_weigh: the weight of the contacts is the fragment's.
 -- Assumes nothing.
 use mathlib.Core.Path.{◌≡◌, refl, sym, ap, ◌∙◌, subst}
-use mathlib.Core.Logic.{◌≢◌, ◌⊎◌, ⊎_elim}
-use mathlib.Core.Bool.{Bool, true, false, cond}
+use mathlib.Core.Logic.{◌≢◌}
+use mathlib.Core.Bool.{Bool, true, false, cond, not}
 use mathlib.Core.List.{List, [], ◌∷◌}
-use Prim.Native.Nat.{ℕ, zero, suc, ◌+◌, ◌-◌, ◌<◌, ◌≤◌}
+use Prim.Native.Nat.{ℕ, zero, suc, ◌+◌, ◌-◌, ◌<◌, ◌≤◌, max}
 use native.Mathlib.Nat.{not-suc-le-zero}
+use native.Mathlib.Decide.{dec_lt}
 use native.Mathlib.Omega.{arith}
+use borrow.Author.Tests.{not-true, not-false, lt-ltb, le-ltb}
+use lib.Dec.{eqb}
 use lib.ListN.{length, get_or, take, drop, length-drop}
 use lib.Seq.{get_or-drop, drop-drop}
+use Rattle.std.specs.Prelude.{Option, Some, None, is_some}
+use Rattle.std.specs.Option.{unwrap_or}
 use Rattle.rules.specs.Lists.{all}
 use Rattle.rules.specs.Terms.{visits}
 use Rattle.rules.specs.Laying.{admissible, choice_of}
-use Rattle.land.specs.Walks.{first_fit}
+use Rattle.laws.proofs.Tests.{eqb_yes, eqb_no}
+use Rattle.land.specs.Walks.{first_fit, fitting}
 use Rattle.land.proofs.Laws.{fit_le, fit_some, told_none, told_first, told_one, told_more}
 use Rattle.fragment.specs.declared.Weight.{Weight}
 use Rattle.fragment.specs.Fragments.{Contacts}
-use Rattle.fragment.specs.Rounds.{few, weighed, Weighs}
+use Rattle.fragment.specs.Rounds.{weighed, Weighs}
 use Rattle.fragment.specs.Bars.{Passed}
-use Rattle.fragment.proofs.Turning.{same_default}
+use Rattle.fragment.proofs.Choosing.{weighed_is}
+use Rattle.fragment.proofs.Barring.{passed_as}
 
 -- ---- where a search begins
 
@@ -66,21 +73,21 @@ module _ (ends cs : List ℕ) where
 
 -- of n lands, x and y tell which are passed; a is the first found from x on
 module _ (ends cs : List ℕ) (ls : List (List ℕ)) (n x y : ℕ) (size : length ls ≡ n) (p : Passed ends cs ls x y) (a : ℕ) (f : a ≡ x + first_fit ends cs (drop x ls)) where
-  pub first_found : a ≡ 0 + first_fit ends cs (drop 0 ls)
+  first_found : a ≡ 0 + first_fit ends cs (drop 0 ls)
   first_found = f ∙ sym (fit_past ends cs 0 x ls (omega arith) p.first (λ i h k. p.low i k))
 
   -- b is the first found from e on, the later of y and the land behind a
-  module _ (h : a ≢ n) (e b : ℕ) (u : (y ≤ e) × (a + 1 ≤ e) × ((e ≡ y) ⊎ (e ≡ a + 1))) (g : b ≡ e + first_fit ends cs (drop e ls)) where
-    pub next_most : e ≤ n
-    next_most = ⊎_elim (λ q. omega (arith, q, p.second)) (λ q. omega (arith, q, first_found, fit_le ends cs ls)) u.2
+  module _ (h : a ≢ n) (e b : ℕ) (u : e ≡ max y (a + 1)) (g : b ≡ e + first_fit ends cs (drop e ls)) where
+    next_most : e ≤ n
+    next_most = omega (arith, u, p.second, first_found, fit_le ends cs ls)
 
-    pub second_found : b ≡ a + 1 + first_fit ends cs (drop (a + 1) ls)
-    second_found = g ∙ sym (fit_past ends cs (a + 1) e ls u.1 (omega (arith, next_most)) (λ i l m. ⊎_elim (λ q. p.between i (omega (arith, f)) (omega (arith, q))) (λ q. absurd (not-suc-le-zero {n = 0} (omega (arith, q)))) u.2))
+    second_found : b ≡ a + 1 + first_fit ends cs (drop (a + 1) ls)
+    second_found = g ∙ sym (fit_past ends cs (a + 1) e ls (omega (arith, u)) (omega (arith, next_most)) (λ i l m. p.between i (omega (arith, f)) (omega (arith, u))))
 
     second_most : b ≤ n
     second_most = omega (arith, g, fit_le ends cs (drop e ls), length-drop e ls, next_most)
 
-    pub passed_again : Passed ends cs ls a b
+    passed_again : Passed ends cs ls a b
     passed_again = record {
       first = omega (arith, first_found, fit_le ends cs ls);
       second = omega (arith, second_most);
@@ -88,45 +95,103 @@ module _ (ends cs : List ℕ) (ls : List (List ℕ)) (n x y : ℕ) (size : lengt
       between = λ i k m. fit_since ends cs (a + 1) ls i (omega arith) (omega (arith, second_found));
     }
 
--- ---- the weight
+-- ---- the answers of the searches
 
-few_more : (n : ℕ) → 2 ≤ n → few n ≡ 2
-unfolding few
-few_more zero h = absurd (not-suc-le-zero h)
-few_more (suc zero) h = absurd (not-suc-le-zero {n = 0} (omega arith))
-few_more (suc (suc n)) h = refl
+none_some : (k : ℕ) → None ≡ Some k → ⊥
+none_some k e = cc
+
+module _ (n i : ℕ) where
+  fitting_in : i < n → fitting n i ≡ Some i
+  fitting_in h = rw (lt-ltb i n h)
+
+  fitting_out : n ≤ i → fitting n i ≡ None
+  fitting_out h = rw (le-ltb i n h)
+
+  fitting_some : (k : ℕ) → Some k ≡ fitting n i → (k ≡ i) × (i < n)
+  fitting_some k e = go (dec_lt i n)
+    where
+      go : Dec (i < n) → (k ≡ i) × (i < n)
+      go (yes h) = (ap (λ o. unwrap_or o 0) (e ∙ fitting_in h), h)
+      go (no h) = absurd (none_some k (sym (e ∙ fitting_out (omega arith))))
+
+  fitting_none : None ≡ fitting n i → n ≤ i
+  fitting_none e = go (dec_lt i n)
+    where
+      go : Dec (i < n) → n ≤ i
+      go (yes h) = absurd (none_some i (e ∙ fitting_in h))
+      go (no h) = omega arith
+
+  fitting_end : i ≤ n → unwrap_or (fitting n i) n ≡ i
+  fitting_end h = go (dec_lt i n)
+    where
+      go : Dec (i < n) → unwrap_or (fitting n i) n ≡ i
+      go (yes l) = ap (λ o. unwrap_or o n) (fitting_in l)
+      go (no l) = ap (λ o. unwrap_or o n) (fitting_out (omega arith)) ∙ omega arith
+
+-- ---- the weight
 
 module _ (ends cs : List ℕ) (ls : List (List ℕ)) (n a : ℕ) (size : length ls ≡ n) (f : a ≡ 0 + first_fit ends cs (drop 0 ls)) where
   abbrev fits : List ℕ
   fits = admissible ends cs 0 ls
 
-  pub first_most : a ≤ n
+  first_most : a ≤ n
   first_most = omega (arith, fit_le ends cs ls)
 
-  pub weigh_none : a ≡ n → record { fits = 0; land = n } ≡ weighed n fits
-  unfolding few
-  weigh_none e = sym (ap (weighed n) (told_none ends cs ls n a size f e))
+  weigh_none : (k : ℕ) → a ≡ n → None ≡ weighed k fits
+  weigh_none k e = sym (ap (weighed k) (told_none ends cs ls n a size f e))
 
   some : a ≢ n → 1 ≤ length fits
   some h = fit_some ends cs 0 ls (omega (arith, fit_le ends cs ls))
 
-  lowest : a ≢ n → get_or fits 0 n ≡ a
-  lowest h = same_default fits 0 n 0 (some h) ∙ told_first ends cs ls n a size f h
+  -- o tells whether no land behind the first is found
+  module _ (b : ℕ) (h : a ≢ n) (g : b ≡ a + 1 + first_fit ends cs (drop (a + 1) ls)) (o : Bool) (told : is_some (fitting n b) ≡ not o) where
+    only_is : eqb (length fits) 1 ≡ o
+    only_is = go (dec_lt b n)
+      where
+        go : Dec (b < n) → eqb (length fits) 1 ≡ o
+        go (yes l) = eqb_no (length fits) 1 (told_more ends cs ls n a size f b h g (omega arith)) ∙ sym (not-true o (sym told ∙ ap is_some (fitting_in n b l)))
+        go (no l) =
+            eqb_yes (length fits) 1 (told_one ends cs ls n a size f b h g (omega (arith, first_most, length-drop (a + 1) ls, fit_le ends cs (drop (a + 1) ls))))
+            ∙ sym (not-false o (sym told ∙ ap is_some (fitting_out n b (omega arith))))
 
-  module _ (b : ℕ) (h : a ≢ n) (g : b ≡ a + 1 + first_fit ends cs (drop (a + 1) ls)) where
-    pub weigh_one : b ≡ n → record { fits = 1; land = a } ≡ weighed n fits
-    unfolding few
-    weigh_one e = sym (ap (λ (m : ℕ). record { fits = few m; land = get_or fits 0 n }) (told_one ends cs ls n a size f b h g e) ∙ ap (λ (l : ℕ). record { fits = 1; land = l }) (lowest h))
+    weigh_some : (k : ℕ) → Some (record { choice = record { name = k; land = a }; only = o }) ≡ weighed k fits
+    weigh_some k = weighed_is k fits a o (some h) (told_first ends cs ls n a size f h) only_is
 
-    pub weigh_more : b ≢ n → record { fits = 2; land = a } ≡ weighed n fits
-    weigh_more e =
-        let ne = told_more ends cs ls n a size f b h g e in
-        let two : few (length fits) ≡ 2 = few_more (length fits) (omega (arith, some h)) in
-        sym (ap (λ (m : ℕ). record { fits = m; land = get_or fits 0 n }) two ∙ ap (λ (l : ℕ). record { fits = 2; land = l }) (lowest h))
+-- ---- the two searches, the first from x on, and what they tell of fragment k
+
+module _ (ends cs : List ℕ) (ls : List (List ℕ)) (n x y : ℕ) (size : length ls ≡ n) (p : Passed ends cs ls x y) (k : ℕ) where
+  pub none_left : None ≡ fitting n (x + first_fit ends cs (drop x ls)) → None ≡ weighed k (admissible ends cs 0 ls)
+  none_left e =
+      let a = x + first_fit ends cs (drop x ls) in
+      let f = first_found ends cs ls n x y size p a refl in
+      weigh_none ends cs ls n a size f k (omega (arith, fitting_none n a e, first_most ends cs ls n a size f))
+
+  -- the first finds land a, and the second begins at e and answers r
+  module _ (a : ℕ) (h : Some a ≡ fitting n (x + first_fit ends cs (drop x ls))) (e : ℕ) (u : e ≡ max y (a + 1)) where
+    here : a ≡ x + first_fit ends cs (drop x ls)
+    here = (fitting_some n (x + first_fit ends cs (drop x ls)) a h).0
+
+    low : a ≢ n
+    low q = not-suc-le-zero {n = 0} (omega (arith, q, fitting_some n (x + first_fit ends cs (drop x ls)) a h))
+
+    pub second_begins : e ≤ n
+    second_begins = next_most ends cs ls n x y size p a here low e (e + first_fit ends cs (drop e ls)) u refl
+
+    module _ (r : Option ℕ) (g : r ≡ fitting n (e + first_fit ends cs (drop e ls))) where
+      pub told_again : (m : ℕ) → m ≡ unwrap_or r n → Passed ends cs ls a m
+      told_again m q =
+          let b = e + first_fit ends cs (drop e ls) in
+          passed_as ends cs ls a b a m refl (q ∙ ap (λ o. unwrap_or o n) g ∙ fitting_end n b (second_most ends cs ls n x y size p a here low e b u refl))
+          (passed_again ends cs ls n x y size p a here low e b u refl)
+
+      pub weight_told : (o : Bool) → is_some r ≡ not o → Some (record { choice = record { name = k; land = a }; only = o }) ≡ weighed k (admissible ends cs 0 ls)
+      weight_told o q =
+          let b = e + first_fit ends cs (drop e ls) in
+          weigh_some ends cs ls n a size (first_found ends cs ls n x y size p a here) b low (second_found ends cs ls n x y size p a here low e b u refl) o (ap is_some (sym g) ∙ q) k
 
 -- the contacts of a fragment, weighed
-pub contacts_weigh : (v : ℕ) (ends : List ℕ) (play lp : List Bool) (ls : List (List ℕ)) (none k : ℕ) (marks marks' : List Bool) (contacts : List ℕ) (r : ℕ) (w : Weight)
-    → Contacts v ends play lp k marks marks' contacts r → w ≡ weighed none (admissible ends (take r contacts) 0 ls) → Weighs v ends play lp ls none k marks marks' w
+pub contacts_weigh : (v : ℕ) (ends : List ℕ) (play lp : List Bool) (ls : List (List ℕ)) (k : ℕ) (marks marks' : List Bool) (contacts : List ℕ) (r : ℕ) (w : Option Weight)
+    → Contacts v ends play lp k marks marks' contacts r → w ≡ weighed k (admissible ends (take r contacts) 0 ls) → Weighs v ends play lp ls k marks marks' w
 unfolding choice_of
-contacts_weigh v ends play lp ls none k marks marks' contacts r w c e =
-    record { weight = e ∙ ap (λ (cs : List ℕ). weighed none (admissible ends cs 0 ls)) c.list; marked = c.marked }
+contacts_weigh v ends play lp ls k marks marks' contacts r w c e =
+    record { weight = e ∙ ap (λ (cs : List ℕ). weighed k (admissible ends cs 0 ls)) c.list; marked = c.marked }

@@ -1,3 +1,4 @@
+pub mod Desks
 pub mod Fragments
 pub mod Rounds
 pub mod Bars

@@ -13,6 +13,7 @@ pub fn fill_from<R: Read>(input: &mut R, into: &mut [u8]) -> io::Result<usize>
     ensures bytes { IfOk result (λ n. Consumes (R.remaining input.old) (R.remaining input.new) (take n into.new)) }
     ensures end { IfOk result (λ n. n < length into.new → IsAtEnd (R.remaining input.new)) }
 {
+    // No call of std fills a slice as far as the input goes: read_exact fails where it ends, and read_to_end asks a Vec.
     let mut n = 0;
     while n < into.len() {
         let more = input.read(&mut into[n..])?;

@@ -8,6 +8,7 @@ use mathlib.Core.List.{List, ◌++◌, map, append-nil}
 use Prim.Native.Nat.{ℕ, ◌+◌, ◌-◌, ◌*◌, ◌/◌, ◌≤◌}
 use native.Mathlib.Omega.{arith}
 use lib.ListN.{length, drop, replicate, length-replicate, length-map}
+use Rattle.std.specs.Prelude.{Ok}
 use Rattle.rules.specs.Lists.{concat}
 use Rattle.rules.specs.Terms.{missing}
 use Rattle.rules.specs.Refusals.{Answer, given, Plate as RulePlate, pairs_of}
@@ -65,9 +66,9 @@ module _ (b : List ℕ) (p : Plate) (k : Known b p) where
           (subst (λ (w : List ℕ). Sheet p.ports w (whole_plate P) n m t l ns r) (same_ends b p k pairs e)
           (subst (λ (w : List Bool). Sheet p.ports pairs w n m t l ns r) (same_play b p k pairs e) S))
 
-      pub laid_told : laid_answer r ≡ told a
-      unfolding told laid_out
-      laid_told = S'.said ∙ sym (ap told ea)
+      pub laid_told : laid_answer (Ok r) ≡ told a
+      unfolding told laid_out laid_answer
+      laid_told = ap given S'.said ∙ sym (ap told ea)
 
       pub laid_turns : (old : List ℕ) → t ++ drop (2 * p.channels) old ≡ turns_left a old
       unfolding turns_left filled laid_out

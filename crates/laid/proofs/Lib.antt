@@ -1,5 +1,3 @@
-pub mod Filling
-pub mod Answering
 pub mod Laying
 pub mod Rooming
 pub mod Leaving

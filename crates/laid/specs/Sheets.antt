@@ -6,12 +6,11 @@ use Rattle.std.specs.Prelude.{◌≡◌, Bool, List, ◌++◌, map, ℕ, ◌-◌
 use Rattle.rules.specs.Lists.{concat}
 use Rattle.rules.specs.Terms.{missing}
 use Rattle.rules.specs.Files.{limits1}
-use Rattle.rules.specs.Refusals.{given}
 use Rattle.rules.specs.Laying.{laying}
 use Rattle.rounds.specs.Words.{said_of}
 use Rattle.step.specs.Rooms.{Plan}
 use Rattle.laid.specs.declared.Laid.{Laid}
-use Rattle.laid.specs.Answers.{laid_answer}
+use Rattle.laid.specs.Answers.{told_of}
 
 pub record Fit (v : ℕ) (ends : List ℕ) (play : List Bool) (n : ℕ) (turns lands lengths : List ℕ) : Type 0 where
   pub plan : Plan v ends play
@@ -22,7 +21,7 @@ pub record Fit (v : ℕ) (ends : List ℕ) (play : List Bool) (n : ℕ) (turns l
   pub of_lengths : length (laying v ends play n).state.lands ≤ length lengths
 
 pub record Sheet (v : ℕ) (ends : List ℕ) (play : List Bool) (n m : ℕ) (turns lands lengths : List ℕ) (r : Laid) : Type 0 where
-  pub said : laid_answer r ≡ given (said_of (laying v ends play n))
+  pub said : told_of r ≡ said_of (laying v ends play n)
   pub of_turns : turns ≡ (laying v ends play n).state.turns
   pub of_lands : lands ≡ concat (laying v ends play n).state.lands ++ replicate (length ends - length (concat (laying v ends play n).state.lands)) missing
   -- m lengths are there to fill

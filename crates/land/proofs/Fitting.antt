@@ -10,13 +10,15 @@ use Prim.Native.Nat.{ℕ, ◌+◌, ◌-◌, ◌≤◌, ◌<◌}
 use native.Mathlib.Nat.{add-zero}
 use native.Mathlib.Numerals.{add-one}
 use native.Mathlib.Omega.{arith}
+use borrow.Author.Tests.{lt-ltb, le-ltb}
 use lib.Dec.{eqb}
 use lib.ListN.{length, get_or, drop, drop_of_length-le}
 use lib.Seq.{drop-cons}
+use Rattle.std.specs.Prelude.{Some, None}
 use Rattle.rules.specs.Lists.{any, all}
 use Rattle.rules.specs.Terms.{leaves, next, visits}
 use Rattle.laws.proofs.Tests.{eqb_yes, eqb_no}
-use Rattle.land.specs.Walks.{land_from, lands, first_fit, Walkable}
+use Rattle.land.specs.Walks.{land_from, lands, first_fit, fitting, Walkable}
 use Rattle.land.proofs.Laws.{length_lands, lands_cut}
 use Rattle.land.proofs.Walking.{from_step, from_end, from_start}
 
@@ -49,8 +51,8 @@ all_next : (f : ℕ → Bool) (cs : List ℕ) (c : ℕ) → c < length cs → al
 unfolding all
 all_next f cs c h = ap (all f) (drop-cons cs c 0 h ∙ ap (λ (k : ℕ). get_or cs c 0 ∷ drop k cs) (sym (add-one c)))
 
-pub all_yes : (f : ℕ → Bool) (cs : List ℕ) (c c' : ℕ) → c < length cs → c' ≡ c → f (get_or cs c 0) ≡ true → all f cs ≡ all f (drop c cs) → all f cs ≡ all f (drop (c' + 1) cs)
-all_yes f cs c c' h s y e = e ∙ all_next f cs c h ∙ ap (λ (b : Bool). b && all f (drop (c + 1) cs)) y ∙ ap (λ (k : ℕ). all f (drop (k + 1) cs)) (sym s)
+pub all_yes : (f : ℕ → Bool) (cs : List ℕ) (c : ℕ) → c < length cs → f (get_or cs c 0) ≡ true → all f cs ≡ all f (drop c cs) → all f cs ≡ all f (drop (c + 1) cs)
+all_yes f cs c h y e = e ∙ all_next f cs c h ∙ ap (λ (b : Bool). b && all f (drop (c + 1) cs)) y
 
 pub all_no : (f : ℕ → Bool) (cs : List ℕ) (c : ℕ) → c < length cs → f (get_or cs c 0) ≡ false → all f cs ≡ all f (drop c cs) → all f cs ≡ false
 all_no f cs c h y e = e ∙ all_next f cs c h ∙ ap (λ (b : Bool). b && all f (drop (c + 1) cs)) y
@@ -60,6 +62,12 @@ unfolding all
 all_end f cs c h e = e ∙ ap (all f) (drop_of_length-le cs h)
 
 -- ---- the lands
+
+fitting_is : (n k i : ℕ) → k < n → k ≡ i → Some k ≡ fitting n i
+fitting_is n k i h e = rw (← e) (rw (lt-ltb k n h))
+
+fitting_none : (n i : ℕ) → n ≡ i → None ≡ fitting n i
+fitting_none n i e = rw (← e) (rw (le-ltb n n (omega arith)))
 
 pub record Passed (ends cs : List ℕ) (ls : List (List ℕ)) (i k : ℕ) : Type 0 where
   pub most : k ≤ length ls
@@ -84,14 +92,15 @@ module _ (ends cs t fs ns : List ℕ) (n i : ℕ) (w : Walkable t fs ns n) where
       rest = p.rest ∙ ap (λ (ls : List (List ℕ)). k + first_fit ends cs ls) cut ∙ rw e (omega arith);
     }
 
-    pub pass_found : all (visits ends (land_from t len d)) cs ≡ true → Passed ends cs (lands t fs ns n) i k → k ≡ i + first_fit ends cs (drop i (lands t fs ns n))
+    pub pass_found : all (visits ends (land_from t len d)) cs ≡ true → Passed ends cs (lands t fs ns n) i k → Some k ≡ fitting n (i + first_fit ends cs (drop i (lands t fs ns n)))
     unfolding first_fit
-    pass_found e p = sym (p.rest ∙ ap (λ (ls : List (List ℕ)). k + first_fit ends cs ls) cut ∙ rw e (add-zero k))
+    pass_found e p = fitting_is n k (i + first_fit ends cs (drop i (lands t fs ns n))) h (sym (p.rest ∙ ap (λ (ls : List (List ℕ)). k + first_fit ends cs ls) cut ∙ rw e (add-zero k)))
 
-  pub pass_none : (k : ℕ) → n ≤ k → Passed ends cs (lands t fs ns n) i k → n ≡ i + first_fit ends cs (drop i (lands t fs ns n))
+  pub pass_none : (k : ℕ) → n ≤ k → Passed ends cs (lands t fs ns n) i k → None ≡ fitting n (i + first_fit ends cs (drop i (lands t fs ns n)))
   unfolding first_fit
   pass_none k h p =
+      fitting_none n (i + first_fit ends cs (drop i (lands t fs ns n))) (
       let over : length (lands t fs ns n) ≤ k = omega (arith, size) in
       let none : drop k (lands t fs ns n) ≡ [] = drop_of_length-le (lands t fs ns n) over in
       let zero_left : first_fit ends cs (drop k (lands t fs ns n)) ≡ 0 = ap (first_fit ends cs) none in
-      omega (arith, p.rest, p.most, size)
+      omega (arith, p.rest, p.most, size))

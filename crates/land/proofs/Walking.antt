@@ -7,9 +7,10 @@ use mathlib.Core.Path.{◌≡◌, refl, sym, ap, ◌∙◌, subst}
 use mathlib.Core.Logic.{◌≢◌}
 use mathlib.Core.Bool.{Bool, true, false, cond, ◌||◌}
 use mathlib.Core.List.{List, [], ◌∷◌}
-use Prim.Native.Nat.{ℕ, suc, ◌+◌, ◌-◌, ◌%◌, ◌<◌, ◌≤◌}
+use Prim.Native.Nat.{ℕ, min, suc, ◌+◌, ◌-◌, ◌%◌, ◌<◌, ◌≤◌}
 use native.Mathlib.Omega.{arith}
 use borrow.Author.Tests.{lt-ltb}
+use Rattle.std.proofs.lemmas.Bool.Decides.{nat_tests}
 use lib.Dec.{T, eqb, ltb}
 use lib.ListN.{length}
 use Rattle.rules.specs.Lists.{any}
@@ -99,11 +100,14 @@ low_start t n d h w =
     low : d < missing → cond (ltb d missing) d missing ≡ d
     low k = rw (lt-ltb d missing k)
 
-pub low_step : (t : List ℕ) (n k e e' low low' x : ℕ) → k < n → e' ≡ next t e → low' ≡ cond (ltb e low) e low
+pub low_step : (t : List ℕ) (n k e e' low low' x : ℕ) → k < n → e' ≡ next t e → low' ≡ min e low
     → x ≡ least low (land_from t (n - k) e) → x ≡ least low' (land_from t (n - (k + 1)) e')
 unfolding least
 low_step t n k e e' low low' x h s c q =
-    q ∙ ap (least low) (from_step t n k e e' h s) ∙ ap (λ (m : ℕ). least m (land_from t (n - (k + 1)) e')) (sym c)
+    q ∙ ap (least low) (from_step t n k e e' h s) ∙ ap (λ (m : ℕ). least m (land_from t (n - (k + 1)) e')) (sym (c ∙ lower e low))
+  where
+    lower : (a b : ℕ) → min a b ≡ cond (ltb a b) a b
+    lower a b = grind (arith, nat_tests)
 
 pub low_end : (t : List ℕ) (n k e low x : ℕ) → n ≤ k → x ≡ least low (land_from t (n - k) e) → low ≡ x
 unfolding least

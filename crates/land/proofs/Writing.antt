@@ -47,9 +47,9 @@ write_step t d n o₀ at o e k x e' room h v s w = record {
     here = drop_head (land_from t n d) k e (land_from t (n - (k + 1)) e') (w.rest ∙ from_step t n k e e' h s)
 
 pub write_end : (t : List ℕ) (d n : ℕ) (o₀ : List ℕ) (at : ℕ) (o : List ℕ) (e k : ℕ) → n ≤ k → Writing t d n o₀ at o e k
-    → (at + k ≡ at + n) × (o ≡ take at o₀ ++ land_from t n d ++ drop (at + n) o₀)
+    → (at + n ≡ at + n) × (o ≡ take at o₀ ++ land_from t n d ++ drop (at + n) o₀)
 write_end t d n o₀ at o e k h w = (
-  ap (λ (j : ℕ). at + j) all,
+  refl,
   w.held ∙ ap (paste o₀ at (land_from t n d)) all
       ∙ ap (λ (m : List ℕ). take at o₀ ++ m ++ drop (at + n) o₀) (take_all n (land_from t n d) (omega (arith, length_from t n d))),
 )

@@ -10,17 +10,15 @@ use native.Mathlib.Omega.{arith}
 use lib.Dec.{ltb}
 use borrow.Author.Tests.{lt-ltb, le-ltb, ltb-false}
 use lib.ListN.{length}
+use Rattle.std.specs.Prelude.{Result, Err}
 use Rattle.rules.specs.Lists.{any}
 use Rattle.rules.specs.Refusals.{Answer, given, refused, passed, ◌>>=◌, ◌>>◌, refuse, lent_test, Plate as RulePlate, read_plate}
 use Rattle.rules.specs.Laying.{Laid as Laying, lands_of_flat, lay_plate, told, turns_left, lands_left, lengths_left}
 use Rattle.laws.proofs.Tests.{or_neither}
 use Rattle.plate.specs.declared.Plate.{Plate}
 use Rattle.plate.specs.declared.Refusal.{Refusal}
-use Rattle.plate.specs.declared.Reading.{Reading}
-use Rattle.plate.specs.declared.Reading.TheVariants.{Refused as Unread}
-use Rattle.plate.specs.Answers.{reading_of, refusal_in}
+use Rattle.plate.specs.Answers.{number_of, reading_of}
 use Rattle.plate.proofs.Laws.{plate_in, Known, unread}
-use Rattle.laid.specs.declared.Laid.TheVariants.{Refused}
 use Rattle.laid.specs.Answers.{laid_answer}
 use Rattle.laid.proofs.Leaving.{laid_out_of, flat_lands}
 
@@ -57,17 +55,18 @@ pub refused_told : (a : Answer Laying) (k q : ℕ) → a ≡ refused k q → tol
 unfolding told
 refused_told a k q e = ap told e
 
-pub refused_all : (a : Answer Laying) (y : Refusal) → a ≡ refused y.number y.place → (t l s : List ℕ)
-    → (laid_answer (Refused y) ≡ told a) × ((t ≡ turns_left a t) × ((l ≡ lands_left a l) × (s ≡ lengths_left a s)))
+pub refused_all : (a : Answer Laying) (y : Refusal) → a ≡ refused (number_of y.fault) y.place → (t l s : List ℕ)
+    → (laid_answer (Err y) ≡ told a) × ((t ≡ turns_left a t) × ((l ≡ lands_left a l) × (s ≡ lengths_left a s)))
 unfolding laid_answer
-refused_all a y e t l s = (sym (refused_told a y.number y.place e), (refused_turns a y.number y.place e t, (refused_lands a y.number y.place e l, refused_lengths a y.number y.place e s)))
+refused_all a y e t l s =
+    let k = number_of y.fault in
+    (sym (refused_told a k y.place e), (refused_turns a k y.place e t, (refused_lands a k y.place e l, refused_lengths a k y.place e s)))
 
 -- a file that is not read
-pub unread_all : (b : List ℕ) (n : ℕ) (t l s : List ℕ) (r : Reading) (e : reading_of r b ≡ read_plate b) (x : Refusal) → r ≡ Unread x → (y : Refusal) → y ≡ refusal_in r
-    → let a = lay_plate b n (length t) (length l) (length s) in (laid_answer (Refused y) ≡ told a) × ((t ≡ turns_left a t) × ((l ≡ lands_left a l) × (s ≡ lengths_left a s)))
-unread_all b n t l s r e x d y g =
-    refused_all (lay_plate b n (length t) (length l) (length s)) y
-    (call_refused b n (length t) (length l) (length s) x.number x.place (unread b r e x d) ∙ ap (λ (z : Refusal). refused z.number z.place) (sym (g ∙ ap refusal_in d))) t l s
+pub unread_all : (b : List ℕ) (n : ℕ) (t l s : List ℕ) (r : Result Plate Refusal) (e : reading_of r b ≡ read_plate b) (x : Refusal) → r ≡ Err x
+    → let a = lay_plate b n (length t) (length l) (length s) in (laid_answer (Err x) ≡ told a) × ((t ≡ turns_left a t) × ((l ≡ lands_left a l) × (s ≡ lengths_left a s)))
+unread_all b n t l s r e x d =
+    refused_all (lay_plate b n (length t) (length l) (length s)) x (call_refused b n (length t) (length l) (length s) (number_of x.fault) x.place (unread b r e x d)) t l s
 
 -- ---- slices that are long enough
 

@@ -1,58 +1,72 @@
--- The parts of a line, in the order in which they are written: the word, the fields, the newline.
--- spelled_word, cycle_word, path_word, land_word, port_word, head_word: the word first. line_field: then a field. line_fields: then fields that one call writes. line_end: the newline last.
--- line_field_as: a field whose number is known otherwise. spell_refused: the line of a refusal, spelled. word_flat, word_stuck, word_partial: the line of each word.
+-- The parts of a line, in the order in which they are written: the word and its numbers, more fields, the newline.
+-- numbers_next, numbers_over: the numbers behind the word, one after another. spelled_begin, path_begin, land_begin, port_begin: the word and its numbers first. cycle_word: the word first. line_fields: then fields that one call writes.
+-- spell_head, spell_refused: the first line, and the line of a refusal, spelled. word_flat, word_stuck, word_partial: the line of each word.
 -- Assumes nothing.
 use mathlib.Core.Path.{◌≡◌, refl, sym, ap, ◌∙◌}
 use mathlib.Core.List.{List, [], ◌∷◌, ◌++◌, append_assoc}
-use Prim.Native.Nat.{ℕ}
+use Prim.Native.Nat.{ℕ, ◌+◌, ◌<◌, ◌≤◌}
+use native.Mathlib.Numerals.{add-one}
+use lib.ListN.{length, get_or, drop, drop_of_length-le}
+use lib.Seq.{drop-cons}
 use Rattle.rules.specs.Lists.{text}
 use Rattle.rules.specs.Listing.{fields, line, head_line}
 use Rattle.print.proofs.Putting.{Cut}
-use Rattle.print.proofs.Fields.{fields_cons}
+use Rattle.print.proofs.Fields.{fields_cons, fields_append}
 use Rattle.rounds.specs.declared.Word.{Word}
 use Rattle.rounds.specs.declared.Word.TheVariants.{Flat, Stuck, Partial}
 use Rattle.lines.specs.Lines.{spelled, line_of_word, plate_of}
 
--- ---- the word
+-- ---- the numbers behind the word
 
-pub spelled_word : (w ns : List ℕ) → Cut (spelled w ns) w (fields ns ++ (10 ∷ []))
+pub numbers_next : (ns : List ℕ) (i : ℕ) → i < length ns → Cut (fields (drop i ns)) (fields (get_or ns i 0 ∷ [])) (fields (drop (i + 1) ns))
+numbers_next ns i h = record {
+  is = ap fields (drop-cons ns i 0 h ∙ ap (λ (k : ℕ). get_or ns i 0 ∷ drop k ns) (sym (add-one i))) ∙ fields_cons (get_or ns i 0) (drop (i + 1) ns);
+}
+
+pub numbers_over : (ns : List ℕ) (i : ℕ) → length ns ≤ i → fields (drop i ns) ≡ []
+unfolding fields
+numbers_over ns i h = ap fields (drop_of_length-le ns h)
+
+pub numbers_word : (w ns : List ℕ) → Cut (w ++ fields ns) w (fields ns)
+numbers_word w ns = record { is = refl }
+
+-- ---- the word and its numbers
+
+pub spelled_begin : (w ns : List ℕ) → Cut (spelled w ns) (w ++ fields ns) (10 ∷ [])
 unfolding spelled
-spelled_word w ns = record { is = append_assoc w (fields ns) (10 ∷ []) }
+spelled_begin w ns = record { is = refl }
+
+begun : (w ms ns : List ℕ) → w ++ fields (ms ++ ns) ++ (10 ∷ []) ≡ (w ++ fields ms) ++ (fields ns ++ (10 ∷ []))
+begun w ms ns =
+    ap (λ (l : List ℕ). w ++ l ++ (10 ∷ [])) (fields_append ms ns) ∙ ap (λ (l : List ℕ). l ++ (10 ∷ [])) (sym (append_assoc w (fields ms) (fields ns)))
+    ∙ append_assoc (w ++ fields ms) (fields ns) (10 ∷ [])
+
+pub path_begin : (f l x : ℕ) (ns : List ℕ) → Cut (line "path" (f ∷ l ∷ x ∷ ns)) ((112 ∷ 97 ∷ 116 ∷ 104 ∷ []) ++ fields (f ∷ l ∷ x ∷ [])) (fields ns ++ (10 ∷ []))
+unfolding line text
+path_begin f l x ns = record { is = begun (text "path") (f ∷ l ∷ x ∷ []) ns }
+
+pub land_begin : (i : ℕ) (ns : List ℕ) → Cut (line "land" (i ∷ ns)) ((108 ∷ 97 ∷ 110 ∷ 100 ∷ []) ++ fields (i ∷ [])) (fields ns ++ (10 ∷ []))
+unfolding line text
+land_begin i ns = record { is = begun (text "land") (i ∷ []) ns }
+
+pub port_begin : (p : ℕ) (ns : List ℕ) → Cut (line "port" (p ∷ ns)) ((112 ∷ 111 ∷ 114 ∷ 116 ∷ []) ++ fields (p ∷ [])) (fields ns ++ (10 ∷ []))
+unfolding line text
+port_begin p ns = record { is = begun (text "port") (p ∷ []) ns }
 
 pub cycle_word : (ns : List ℕ) → Cut (line "cycle" ns) (99 ∷ 121 ∷ 99 ∷ 108 ∷ 101 ∷ []) (fields ns ++ (10 ∷ []))
 unfolding line text
 cycle_word ns = record { is = append_assoc (text "cycle") (fields ns) (10 ∷ []) }
 
-pub path_word : (ns : List ℕ) → Cut (line "path" ns) (112 ∷ 97 ∷ 116 ∷ 104 ∷ []) (fields ns ++ (10 ∷ []))
-unfolding line text
-path_word ns = record { is = append_assoc (text "path") (fields ns) (10 ∷ []) }
-
-pub land_word : (ns : List ℕ) → Cut (line "land" ns) (108 ∷ 97 ∷ 110 ∷ 100 ∷ []) (fields ns ++ (10 ∷ []))
-unfolding line text
-land_word ns = record { is = append_assoc (text "land") (fields ns) (10 ∷ []) }
-
-pub port_word : (ns : List ℕ) → Cut (line "port" ns) (112 ∷ 111 ∷ 114 ∷ 116 ∷ []) (fields ns ++ (10 ∷ []))
-unfolding line text
-port_word ns = record { is = append_assoc (text "port") (fields ns) (10 ∷ []) }
-
-pub head_word : (v e : ℕ) → Cut (head_line (plate_of v e [])) (70 ∷ 80 ∷ 76 ∷ []) (fields (1 ∷ v ∷ e ∷ []) ++ (10 ∷ []))
-unfolding head_line text
-head_word v e = record { is = append_assoc (text "FPL") (fields (1 ∷ v ∷ e ∷ [])) (10 ∷ []) }
-
--- ---- the fields and the newline
-
-pub line_field : (n : ℕ) (ns : List ℕ) → Cut (fields (n ∷ ns) ++ (10 ∷ [])) (fields (n ∷ [])) (fields ns ++ (10 ∷ []))
-line_field n ns = record { is = ap (λ (l : List ℕ). l ++ (10 ∷ [])) (fields_cons n ns) ∙ append_assoc (fields (n ∷ [])) (fields ns) (10 ∷ []) }
-
-pub line_field_as : (n m : ℕ) (ns : List ℕ) → m ≡ n → Cut (fields (n ∷ ns) ++ (10 ∷ [])) (fields (m ∷ [])) (fields ns ++ (10 ∷ []))
-line_field_as n m ns e = record { is = (line_field n ns).is ∙ ap (λ (k : ℕ). fields (k ∷ []) ++ (fields ns ++ (10 ∷ []))) (sym e) }
+-- ---- the fields
 
 pub line_fields : (ns : List ℕ) → Cut (fields ns ++ (10 ∷ [])) (fields ns) (10 ∷ [])
 line_fields ns = record { is = refl }
 
-pub line_end : Cut (fields [] ++ (10 ∷ [])) (10 ∷ []) []
-unfolding fields
-line_end = record { is = refl }
+-- ---- the first line
+
+pub spell_head : (v e : ℕ) → spelled (70 ∷ 80 ∷ 76 ∷ []) (1 ∷ v ∷ e ∷ []) ≡ head_line (plate_of v e [])
+unfolding spelled head_line text
+spell_head v e = refl
 
 -- ---- the words of an outcome, and of a refusal
 

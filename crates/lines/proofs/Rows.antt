@@ -128,9 +128,6 @@ module _ (m n : ℕ) (s : List ℕ) (k i : ℕ) (h : i < n) (t : Telling m n s k
       fuel : n - i ≡ suc (n - (i + 1))
       fuel = omega arith
 
-  pub telling_four : k + 3 ≤ length s
-  telling_four = omega (arith, parted.0, length-drop k s)
-
   module _ (x : ℕ) (e : x ≡ get_or s (k + 2) 0) where
     number : get_or (drop k s) 2 0 ≡ x
     number = get_or-drop k s 2 0 ∙ sym e

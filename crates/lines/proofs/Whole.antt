@@ -2,11 +2,11 @@
 --   Other w                                          the word w is not FLAT
 --   after_head, after_cycle, after_paths, after_word     what is left of L behind its first line, behind the line of the first cycle, of the last path, and of the word
 -- laid_head, laid_cycle, laid_paths, laid_word: the next part apart. laid_flat: where the word is FLAT the lands and ports are left; laid_none: otherwise nothing is.
--- told_from, told_cycle, told_paths: what reading a story asks, n being the number of the first cycle's darts.
+-- told_cycle: the first cycle that a story tells, n being the number of its darts.
 -- Assumes nothing.
 use mathlib.Core.Path.{◌≡◌, refl, sym, ap, ◌∙◌, subst}
 use mathlib.Core.List.{List, [], ◌++◌, map, append_assoc, append-nil}
-use Prim.Native.Nat.{ℕ, zero, suc, ◌+◌, ◌-◌, ◌≤◌}
+use Prim.Native.Nat.{ℕ, zero, suc, ◌+◌, ◌-◌}
 use native.Mathlib.Omega.{arith}
 use lib.ListN.{length, get_or, take, drop}
 use Rattle.rules.specs.Lists.{from, concat}
@@ -19,7 +19,7 @@ use Rattle.print.proofs.Putting.{Cut}
 use Rattle.rounds.specs.declared.Word.{Word}
 use Rattle.rounds.specs.declared.Word.TheVariants.{Flat, Stuck, Partial}
 use Rattle.rounds.specs.Words.{word_in, name_in}
-use Rattle.lines.specs.Story.{cycle_of, paths_in, paths_of, Entries, Told}
+use Rattle.lines.specs.Story.{cycle_of, paths_in, paths_of, Told}
 use Rattle.lines.specs.Lines.{line_of_word, plate_of, path_lines, port_lines, flat_lines, outcome_of}
 
 -- ---- the words
@@ -122,15 +122,9 @@ module _ (v e : ℕ) (ends : List ℕ) (word : Word) (turns firsts lens : List �
 -- ---- what is read off a story
 
 module _ (m k : ℕ) (s : List ℕ) (t : Told m k s) (n : ℕ) (q : n ≡ get_or s 0 0) where
-  pub told_from : 1 + n ≤ length s
-  told_from = omega (arith, t.some)
-
   pub told_cycle : Below m (take (1 + n - 1) (drop 1 s))
   unfolding cycle_of
   told_cycle = subst (λ (j : ℕ). Below m (take j (drop 1 s))) (sym q ∙ all) t.cycle
     where
       all : n ≡ 1 + n - 1
       all = omega arith
-
-  pub told_paths : Entries m k (drop (1 + n) s)
-  told_paths = subst (λ (j : ℕ). Entries m k (drop (1 + j) s)) (sym q) t.paths

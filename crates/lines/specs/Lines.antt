@@ -7,17 +7,15 @@
 --   flat_lines ends turns ls v      the lines of the lands ls and of v ports
 --   outcome_of ..                   an outcome, read off the turns, the lands' first darts and lengths, and a story
 --   Ringed v ends turns            of each of v ports, as many darts clockwise from its smallest as it has are darts
---   Sheet v ends turns ..          what listing the lands and ports of a plate asks
---   Held ..                        what listing a plate asks of the slices
+--   Held v ends turns ..           what listing a plate asks of the slices
 -- Assumes nothing.
-use Rattle.std.specs.Prelude.{◌≡◌, List, [], ◌∷◌, ◌++◌, map, ℕ, ◌%◌, ◌<◌, ◌≤◌, length, get_or}
+use Rattle.std.specs.Prelude.{◌≡◌, List, [], ◌∷◌, ◌++◌, map, ℕ, ◌<◌, ◌≤◌, length, get_or}
 use Rattle.rules.specs.Lists.{from, concat}
 use Rattle.rules.specs.Terms.{missing, darts_at, ring}
 use Rattle.rules.specs.Refusals.{Plate}
 use Rattle.rules.specs.Laying.{Path, Outcome}
 use Rattle.rules.specs.Listing.{fields, line, path_line, land_lines, port_line}
-use Rattle.reach.specs.Floods.{Tables}
-use Rattle.land.specs.Walks.{lands, Below, Walkable}
+use Rattle.land.specs.Walks.{lands, Below}
 use Rattle.rounds.specs.declared.Word.{Word}
 use Rattle.rounds.specs.declared.Word.TheVariants.{Flat, Stuck, Partial}
 use Rattle.rounds.specs.Words.{word_in, name_in}
@@ -56,15 +54,8 @@ outcome_of word turns firsts lens count story paths = record {
 abbrev pub Ringed : ℕ → List ℕ → List ℕ → Type 0
 Ringed v ends turns = (p : ℕ) → p < v → Below (length turns) (ring turns (length (darts_at ends p)) (get_or (darts_at ends p) 0 0))
 
--- What the lines of the lands and ports ask.
-pub record Sheet (v : ℕ) (ends first more turns firsts lens : List ℕ) (count : ℕ) : Type 0 where
-  pub lands : Walkable turns firsts lens count
-  pub tables : Tables v ends first more
-  pub rings : Ringed v ends turns
-
--- What a whole listing asks; the lands and ports are listed where the word is FLAT.
-pub record Held (v : ℕ) (ends first more turns firsts lens : List ℕ) (count : ℕ) (story : List ℕ) (paths : ℕ) (word : Word) : Type 0 where
-  pub even : length ends % 2 ≡ 0
+-- What a whole listing asks; the ports are listed where the word is FLAT.
+pub record Held (v : ℕ) (ends turns story : List ℕ) (paths : ℕ) (word : Word) : Type 0 where
   pub few : length ends ≤ missing
   pub told : Told (length ends) paths story
-  pub sheet : word ≡ Flat → Sheet v ends first more turns firsts lens count
+  pub rings : word ≡ Flat → Ringed v ends turns

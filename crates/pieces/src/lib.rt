@@ -1,80 +1,50 @@
 // Tests 10 and 11, over the channels in play: the lowest port apart from port 0, and the lowest port that cuts, by floods.
-// `first` and `more` have the neighbours of each port; `marks` and `queue` are room to work in.
+// `marks` and `queue` are room to work in.
 #![tactic(auto)]
 
-ghost use Rattle.std.specs.Prelude.{◌≡◌, false, cond, ◌<◌, eqb, length};
-ghost use Rattle.rules.specs.Lists.{seek};
+ghost use Rattle.std.specs.Prelude.{◌≡◌, ◌<◌, length};
+ghost use Rattle.std.specs.List.{find};
+ghost use Rattle.rules.specs.Lists.{from};
 ghost use Rattle.rules.specs.Refusals.{apart, cuts};
 ghost use Rattle.pieces.specs.Lent.{Lent};
 
-use numbers::mark_all;
+use reach::Net;
 
-// The lowest port that is not reached from port 0; the number of ports where there is none.
-pub fn first_apart(
-    ends: &[u16],
-    first: &[u16],
-    more: &[u16],
-    play: &[bool],
-    marks: &mut [bool],
-    queue: &mut [u16],
-) -> usize
-    requires { Lent ends.now first.now more.now play.now marks.old queue.old }
-    ensures { result ≡ seek (apart (length marks.old) ends.now play.now) 0 (length marks.old) }
+// `Lent` ties the room to the net, and stays a clause.
+
+// The lowest port that is not reached from port 0.
+pub fn first_apart(net: Net<'_>, marks: &mut [bool], queue: &mut [u16]) -> Option<usize>
+    requires { Lent (length net.first.now) marks.old queue.old }
+    ensures { result ≡ find (apart (length marks.old) net.entry.ends.now net.entry.play.now) (from 0 (length marks.old)) }
 {
-    mark_all(marks, false);
-    reach::flood(ends, first, more, play, marks, queue, 0);
+    marks.fill(false);
+    reach::flood(net, marks, queue, 0);
     reach::first_unmarked(marks)
 }
 
-// The lowest port other than c.
-fn lowest_other(c: usize) -> usize
-    ensures { result ≡ cond (eqb c 0) 1 0 }
-{
-    if c == 0 {
-        return 1;
-    }
-    0
-}
-
 // Without port c the other ports are in two or more pieces.
-fn is_cut(
-    ends: &[u16],
-    first: &[u16],
-    more: &[u16],
-    play: &[bool],
-    marks: &mut [bool],
-    queue: &mut [u16],
-    c: usize,
-) -> bool
-    requires lent { Lent ends.now first.now more.now play.now marks.old queue.old }
+fn is_cut(net: Net<'_>, marks: &mut [bool], queue: &mut [u16], c: usize) -> bool
+    requires lent { Lent (length net.first.now) marks.old queue.old }
     requires port { c < length marks.old }
-    ensures { result ≡ cuts (length marks.old) ends.now play.now c }
+    ensures { result ≡ cuts (length marks.old) net.entry.ends.now net.entry.play.now c }
 {
-    mark_all(marks, false);
+    marks.fill(false);
     marks[c] = true;
-    let p = lowest_other(c);
-    reach::flood(ends, first, more, play, marks, queue, p);
-    reach::first_unmarked(marks) < marks.len()
+    let lowest_other = usize::from(c == 0);
+    reach::flood(net, marks, queue, lowest_other);
+    reach::first_unmarked(marks).is_some()
 }
 
-// The lowest port without which the others are in two or more pieces; the number of ports where there is none.
-pub fn first_cut(
-    ends: &[u16],
-    first: &[u16],
-    more: &[u16],
-    play: &[bool],
-    marks: &mut [bool],
-    queue: &mut [u16],
-) -> usize
-    requires { Lent ends.now first.now more.now play.now marks.old queue.old }
-    ensures { result ≡ seek (cuts (length marks.old) ends.now play.now) 0 (length marks.old) }
+// The lowest port without which the others are in two or more pieces.
+pub fn first_cut(net: Net<'_>, marks: &mut [bool], queue: &mut [u16]) -> Option<usize>
+    requires { Lent (length net.first.now) marks.old queue.old }
+    ensures { result ≡ find (cuts (length marks.old) net.entry.ends.now net.entry.play.now) (from 0 (length marks.old)) }
 {
-    let mut c = 0;
-    while c < marks.len() {
-        if is_cut(ends, first, more, play, marks, queue, c) {
-            return c;
+    // (`is_cut` writes to what is lent, so it is no test for `find`.)
+    for c in 0..marks.len() {
+        if is_cut(net, marks, queue, c) {
+            return Some(c);
         }
-        c += 1;
     }
-    c
+    None
 }

@@ -7,24 +7,23 @@
 -- Assumes nothing.
 use mathlib.Core.Path.{◌≡◌, refl, sym, ap, ◌∙◌}
 use mathlib.Core.Bool.{true}
-use mathlib.Core.List.{List, []}
+use mathlib.Core.List.{List, [], ◌∷◌}
 use Prim.Native.Nat.{ℕ, zero, suc, ◌+◌, ◌-◌, ◌*◌, ◌/◌, ◌<◌, ◌≤◌, min}
 use native.Mathlib.Numerals.{add-one}
 use native.Mathlib.Decide.{dec_lt}
 use native.Mathlib.Omega.{arith}
 use lib.ListN.{length, get_or, take, drop, drop_of_length-le, replicate, length-append, length-take, length-drop, length-replicate}
 use lib.Seq.{drop-cons, drop-length, take_all, take-length, take_at}
+use Rattle.std.specs.Prelude.{Result, Ok, Err}
 use Rattle.rules.specs.Lists.{number, numbers}
 use Rattle.rules.specs.Files.{plate_file, sheet_file, limits1, ports_in, channels_in, ends_in, pairs_at, turns_at, file_length}
 use Rattle.rules.specs.Refusals.{Answer, given, refused, passed, ◌>>◌, file_tests, piece_tests, read_plate, pairs_part, pairs_of, Test as RuleTest, Plate as RulePlate}
 use Rattle.laws.proofs.Refusals.{Tested, file_tests_passed, then_given, given_inj, refused_not, length_ends}
 use Rattle.plate.specs.declared.Plate.{Plate}
 use Rattle.plate.specs.declared.Refusal.{Refusal}
-use Rattle.plate.specs.declared.Test.{Test}
-use Rattle.plate.specs.declared.Test.TheVariants.{Passed, Refused}
-use Rattle.plate.specs.declared.Reading.{Reading}
-use Rattle.plate.specs.declared.Reading.TheVariants.{Plate as Read, Refused as Unread}
-use Rattle.plate.specs.Answers.{test_of, reading_of}
+use Rattle.plate.specs.declared.Fault.{Fault}
+use Rattle.plate.specs.declared.Fault.TheVariants.{Short, OtherMark, OtherVersion, PortsOutside, ChannelsOutside, OtherLength, Strange, Loop, MetEarlier, Apart, Cuts, WildTurn, AwayTurn, BrokenRing, Lent, Stuck}
+use Rattle.plate.specs.Answers.{number_of, test_of, reading_of}
 use Rattle.plate.specs.State.{most_darts, no_ends, copied}
 
 -- ---- the layout
@@ -78,19 +77,19 @@ sheet_size b t = t.sized.size ∙ length_sheet (channels_in sheet_file b)
 
 -- ---- a test of the code
 
-pub test_passed : (t : Test) (s : RuleTest) → test_of t ≡ s → t ≡ Passed → s ≡ passed
+pub test_passed : (t : Result (Unit {0}) Refusal) (s : RuleTest) → test_of t ≡ s → t ≡ Ok tt → s ≡ passed
 unfolding test_of
 test_passed t s p e = sym p ∙ rw e
 
-pub test_refused : (t : Test) (x : Refusal) (s : RuleTest) → test_of t ≡ s → t ≡ Refused x → s ≡ refused x.number x.place
+pub test_refused : (t : Result (Unit {0}) Refusal) (x : Refusal) (s : RuleTest) → test_of t ≡ s → t ≡ Err x → s ≡ refused (number_of x.fault) x.place
 unfolding test_of
 test_refused t x s p e = sym p ∙ rw e
 
 -- a test of the code that comes first decides, or leaves it to the rest
-pub stops : {B : Type 0} (t : Test) (x : Refusal) (s : RuleTest) (rest : Answer B) → test_of t ≡ s → t ≡ Refused x → (s >> rest) ≡ refused x.number x.place
+pub stops : {B : Type 0} (t : Result (Unit {0}) Refusal) (x : Refusal) (s : RuleTest) (rest : Answer B) → test_of t ≡ s → t ≡ Err x → (s >> rest) ≡ refused (number_of x.fault) x.place
 stops t x s rest p e = rw (test_refused t x s p e)
 
-pub goes : {B : Type 0} (t : Test) (s : RuleTest) (rest : Answer B) → test_of t ≡ s → t ≡ Passed → (s >> rest) ≡ rest
+pub goes : {B : Type 0} (t : Result (Unit {0}) Refusal) (s : RuleTest) (rest : Answer B) → test_of t ≡ s → t ≡ Ok tt → (s >> rest) ≡ rest
 goes t s rest p e = rw (test_passed t s p e)
 
 -- ---- a reading
@@ -119,19 +118,19 @@ pub record Known (b : List ℕ) (p : Plate) : Type 0 where
   pub least_channels_lem : limits1.least_channels ≤ p.channels
   pub most_channels_lem : p.channels ≤ limits1.most_channels
 
-module _ (b : List ℕ) (r : Reading) (e : reading_of r b ≡ read_plate b) where
-  pub unread : (x : Refusal) → r ≡ Unread x → read_plate b ≡ refused x.number x.place
+module _ (b : List ℕ) (r : Result Plate Refusal) (e : reading_of r b ≡ read_plate b) where
+  pub unread : (x : Refusal) → r ≡ Err x → read_plate b ≡ refused (number_of x.fault) x.place
   unfolding reading_of
   unread x d = sym e ∙ rw d
 
-  pub read_is : (p : Plate) → r ≡ Read p → reading_of (Read p) b ≡ read_plate b
-  read_is p d = ap (λ (q : Reading). reading_of q b) (sym d) ∙ e
+  pub read_is : (p : Plate) → r ≡ Ok p → reading_of (Ok p) b ≡ read_plate b
+  read_is p d = ap (λ (q : Result Plate Refusal). reading_of q b) (sym d) ∙ e
 
-  read_given : (p : Plate) → r ≡ Read p → read_plate b ≡ given (record { ports = p.ports; channels = p.channels; ends = ends_in plate_file b })
+  read_given : (p : Plate) → r ≡ Ok p → read_plate b ≡ given (record { ports = p.ports; channels = p.channels; ends = ends_in plate_file b })
   unfolding reading_of
   read_given p d = sym e ∙ rw d
 
-  pub known : (p : Plate) → r ≡ Read p → Known b p
+  pub known : (p : Plate) → r ≡ Ok p → Known b p
   known p d =
       let q : RulePlate = record { ports = p.ports; channels = p.channels; ends = ends_in plate_file b } in
       let g = read_given p d in
@@ -169,12 +168,12 @@ behind b = go (dec_lt (length b) 8)
         let m : min 8 (length b) ≡ 8 = omega arith in
         ap (λ (n : ℕ). drop n b) m
 
-module _ (b : List ℕ) (r : Reading) where
-  pub part_none : (x : Refusal) → r ≡ Unread x → [] ≡ pairs_part (reading_of r b) b
+module _ (b : List ℕ) (r : Result Plate Refusal) where
+  pub part_none : (x : Refusal) → r ≡ Err x → [] ≡ pairs_part (reading_of r b) b
   unfolding pairs_part reading_of
   part_none x d = rw d
 
-  module _ (p : Plate) (d : r ≡ Read p) where
+  module _ (p : Plate) (d : r ≡ Ok p) where
     part_given : pairs_part (reading_of r b) b ≡ take (2 * p.channels) (drop 8 b)
     unfolding pairs_part reading_of turns_at pairs_at
     part_given =
@@ -197,7 +196,7 @@ module _ (b : List ℕ) (r : Reading) where
           ap (λ (m : ℕ). take m (drop start b)) n ∙ ap (take (2 * p.channels)) behind_start ∙ sym part_given
 
 -- of the file's own reading
-pub part_is : (b : List ℕ) (r : Reading) → reading_of r b ≡ read_plate b → pairs_part (reading_of r b) b ≡ pairs_of b
+pub part_is : (b : List ℕ) (r : Result Plate Refusal) → reading_of r b ≡ read_plate b → pairs_part (reading_of r b) b ≡ pairs_of b
 unfolding pairs_of
 part_is b r e = ap (λ (a : Answer RulePlate). pairs_part a b) e
 
@@ -232,27 +231,53 @@ length_no_ends = length-replicate {A = ℕ} most_darts 0
 
 -- ---- two results that meet a promise are equal
 
-refusal_same : (x y : Refusal) → x.number ≡ y.number → x.place ≡ y.place → x ≡ y
-refusal_same x y p q = ap (λ (n : ℕ). record { number = n; place = x.place }) p ∙ ap (λ (n : ℕ). record { number = y.number; place = n }) q
+-- the fault whose refusal has this number
+unfoldable fault_at : ℕ → Fault
+fault_at n = get_or (Short ∷ Short ∷ OtherMark ∷ OtherVersion ∷ PortsOutside ∷ ChannelsOutside ∷ OtherLength ∷ Strange ∷ Loop ∷ MetEarlier ∷ Apart ∷ Cuts ∷ WildTurn ∷ AwayTurn ∷ BrokenRing ∷ Lent ∷ Stuck ∷ []) n Short
+
+fault_back : (f : Fault) → fault_at (number_of f) ≡ f
+unfolding fault_at
+fault_back Short = refl
+fault_back OtherMark = refl
+fault_back OtherVersion = refl
+fault_back PortsOutside = refl
+fault_back ChannelsOutside = refl
+fault_back OtherLength = refl
+fault_back Strange = refl
+fault_back Loop = refl
+fault_back MetEarlier = refl
+fault_back Apart = refl
+fault_back Cuts = refl
+fault_back WildTurn = refl
+fault_back AwayTurn = refl
+fault_back BrokenRing = refl
+fault_back Lent = refl
+fault_back Stuck = refl
+
+pub fault_unique : (f g : Fault) → number_of f ≡ number_of g → f ≡ g
+fault_unique f g e = sym (fault_back f) ∙ ap fault_at e ∙ fault_back g
+
+refusal_same : (x y : Refusal) → x.fault ≡ y.fault → x.place ≡ y.place → x ≡ y
+refusal_same x y p q = ap (λ (f : Fault). record { fault = f; place = x.place }) p ∙ ap (λ (n : ℕ). record { fault = y.fault; place = n }) q
 
 pub plate_same : (x y : Plate) → x.ports ≡ y.ports → x.channels ≡ y.channels → x ≡ y
 plate_same x y p q = ap (λ (n : ℕ). record { ports = n; channels = x.channels }) p ∙ ap (λ (n : ℕ). record { ports = y.ports; channels = n }) q
 
-pub refusal_unique : {B : Type 0} (x y : Refusal) → ◌≡◌ {A = Answer B} (refused x.number x.place) (refused y.number y.place) → x ≡ y
-refusal_unique x y e = refusal_same x y (cc) (cc)
+pub refusal_unique : {B : Type 0} (x y : Refusal) → ◌≡◌ {A = Answer B} (refused (number_of x.fault) x.place) (refused (number_of y.fault) y.place) → x ≡ y
+refusal_unique x y e = refusal_same x y (fault_unique x.fault y.fault (cc)) (cc)
 
-pub test_unique : (t u : Test) → test_of t ≡ test_of u → t ≡ u
+pub test_unique : (t u : Result (Unit {0}) Refusal) → test_of t ≡ test_of u → t ≡ u
 unfolding test_of
-test_unique Passed Passed e = refl
-test_unique Passed (Refused y) e = absurd (refused_not y.number y.place tt (sym e))
-test_unique (Refused x) Passed e = absurd (refused_not x.number x.place tt e)
-test_unique (Refused x) (Refused y) e = ap Refused (refusal_unique x y e)
+test_unique (Ok a) (Ok b) e = refl
+test_unique (Ok a) (Err y) e = absurd (refused_not (number_of y.fault) y.place tt (sym e))
+test_unique (Err x) (Ok b) e = absurd (refused_not (number_of x.fault) x.place tt e)
+test_unique (Err x) (Err y) e = ap Err (refusal_unique x y e)
 
-pub reading_unique : (b : List ℕ) (r s : Reading) → reading_of r b ≡ reading_of s b → r ≡ s
+pub reading_unique : (b : List ℕ) (r s : Result Plate Refusal) → reading_of r b ≡ reading_of s b → r ≡ s
 unfolding reading_of
-reading_unique b (Read p) (Read q) e =
+reading_unique b (Ok p) (Ok q) e =
     let d = given_inj _ _ e in
-    ap Read (plate_same p q (ap (λ (w : RulePlate). w.ports) d) (ap (λ (w : RulePlate). w.channels) d))
-reading_unique b (Read p) (Unread y) e = absurd (refused_not y.number y.place _ (sym e))
-reading_unique b (Unread x) (Read q) e = absurd (refused_not x.number x.place _ e)
-reading_unique b (Unread x) (Unread y) e = ap Unread (refusal_unique x y e)
+    ap Ok (plate_same p q (ap (λ (w : RulePlate). w.ports) d) (ap (λ (w : RulePlate). w.channels) d))
+reading_unique b (Ok p) (Err y) e = absurd (refused_not (number_of y.fault) y.place _ (sym e))
+reading_unique b (Err x) (Ok q) e = absurd (refused_not (number_of x.fault) x.place _ e)
+reading_unique b (Err x) (Err y) e = ap Err (refusal_unique x y e)

@@ -1,42 +1,56 @@
 -- Tests one after the other, in the code and in the rules (rules, "Refusals").
 --   bad_ports f b, bad_channels f b      V, E of a file outside the limits
--- refuse_at_yes_lem, refuse_at_no_lem: what a test over channels gives. mark_.., count_.., pair_.., piece_..: what the stages give, by the tests of each that were passed.
--- kind_..: what the two formats share. other_mark_lem: a mark, byte by byte.
+-- refuse_at_some, refuse_at_none: what a test over channels gives, by what the search for a bad one answers; refuse_at_yes_lem, refuse_at_no_lem: by its number. found_fits: what was found is a place. mark_.., count_.., pair_.., piece_..: what the stages give, by the tests of each that were passed.
+-- kind_..: what the two formats share. mark_is: a mark, by what the file starts with.
 -- Assumes nothing.
 use mathlib.Core.Path.{◌≡◌, refl, sym, ap, subst, ◌∙◌}
-use mathlib.Core.Bool.{Bool, true, false, not, ◌&&◌}
-use mathlib.Core.List.{List}
+use mathlib.Core.Bool.{Bool, true, false, not}
+use mathlib.Core.List.{List, [], ◌∷◌}
 use Prim.Native.Nat.{ℕ, ◌+◌, ◌*◌, ◌≤◌, ◌<◌}
 use native.Mathlib.Omega.{arith}
-use borrow.Author.Tests.{lt-ltb, le-ltb, ltb-false, ne_eqb, eq-eqb}
+use borrow.Author.Tests.{lt-ltb, le-ltb, ltb-false}
 use lib.Dec.{ltb, eqb}
-use lib.ListN.{length, get_or}
-use Rattle.rules.specs.Lists.{from, all, seek, number}
+use lib.ListN.{length}
+use Rattle.std.specs.Prelude.{Option, Some, None, Result, Ok, Err}
+use Rattle.std.specs.List.{find, starts_with}
+use Rattle.laws.proofs.Finding.{find_most, seek_some, seek_none}
+use Rattle.std.proofs.lemmas.Bool.Decides.{nat_tests}
+use Rattle.rules.specs.Lists.{from, all, seek, text, number}
 use Rattle.rules.specs.Files.{Format, Limits, plate_file, sheet_file, limits1, ports_in, channels_in, ends_in, pairs_at, file_length}
 use Rattle.rules.specs.Refusals.{given, refused, passed, refuse, refuse_at, ◌>>◌, short, other_mark, other_version, mark_tests, outside, other_length, count_tests, strange, loop, met_earlier, place_of_channel, pair_tests, file_tests, itself, apart, cuts, piece_tests, read_plate}
 use Rattle.plate.specs.declared.Refusal.{Refusal}
 use Rattle.plate.specs.declared.Kind.{Kind}
 use Rattle.plate.specs.declared.Kind.TheVariants.{Plate as PlateKind, Sheet as SheetKind}
-use Rattle.plate.specs.declared.Test.{Test}
-use Rattle.plate.specs.declared.Test.TheVariants.{Passed, Refused}
 use Rattle.plate.specs.declared.Plate.{Plate}
-use Rattle.plate.specs.declared.Reading.TheVariants.{Plate as Read, Refused as Unread}
-use Rattle.plate.specs.Answers.{format_of, test_of, reading_of}
+use Rattle.plate.specs.Answers.{format_of, number_of, test_of, reading_of}
 use Rattle.plate.specs.State.{most_darts}
 use Rattle.laws.proofs.Refusals.{count_tests_passed}
 use Rattle.laws.proofs.Tests.{or_neither}
 use Rattle.plate.proofs.Laws.{length_plate, length_sheet, test_passed, stops, goes, pieces_in, plate_in, reading_is}
 
--- ---- a test over channels
+-- ---- a test over channels, by what the search for a bad one answers
 
-module _ (n : ℕ) (place : ℕ → ℕ) (bad : ℕ → Bool) (m k : ℕ) (e : k ≡ seek bad 0 m) where
-  pub refuse_at_yes_lem : k < m → refuse_at n place bad m ≡ refused n (place k)
+module _ (n : ℕ) (place : ℕ → ℕ) (bad : ℕ → Bool) (m : ℕ) where
+  pub refuse_at_some : (k : ℕ) → find bad (from 0 m) ≡ Some k → refuse_at n place bad m ≡ refused n (place k)
   unfolding refuse_at
-  refuse_at_yes_lem h = rw (← e, lt-ltb k m h)
+  refuse_at_some k e = rw (seek_some bad m k e, lt-ltb k m (omega (arith, find_most bad 0 m k e)))
 
-  pub refuse_at_no_lem : m ≤ k → refuse_at n place bad m ≡ passed
+  pub refuse_at_none : find bad (from 0 m) ≡ None → refuse_at n place bad m ≡ passed
   unfolding refuse_at
-  refuse_at_no_lem h = rw (← e, le-ltb k m h)
+  refuse_at_none e = rw (seek_none bad m e, le-ltb m m (omega arith))
+
+  module _ (k : ℕ) (e : k ≡ seek bad 0 m) where
+    pub refuse_at_yes_lem : k < m → refuse_at n place bad m ≡ refused n (place k)
+    unfolding refuse_at
+    refuse_at_yes_lem h = rw (← e, lt-ltb k m h)
+
+    pub refuse_at_no_lem : m ≤ k → refuse_at n place bad m ≡ passed
+    unfolding refuse_at
+    refuse_at_no_lem h = rw (← e, le-ltb k m h)
+
+-- what a search finds below a number of 16 bits
+pub found_fits : (bad : ℕ → Bool) (m k : ℕ) (r : Option ℕ) → r ≡ find bad (from 0 m) → r ≡ Some k → m < 65536 → k < 65536
+found_fits bad m k r p e h = omega (arith, find_most bad 0 m k (sym p ∙ e))
 
 -- ---- 1 to 3
 
@@ -82,65 +96,57 @@ module _ (f : Format) (b : List ℕ) where
   unfolding count_tests refuse
   count_passed p q r = rw (p, q, r)
 
-pub outside_low : (low high n : ℕ) → n < low → true ≡ outside low high n
-unfolding outside
-outside_low low high n h = rw (lt-ltb n low h)
-
-pub outside_high : (low high n : ℕ) → low ≤ n → ltb high n ≡ outside low high n
-unfolding outside
-outside_high low high n h = rw (le-ltb n low h)
-
 pub inside : (low high n : ℕ) → outside low high n ≡ false → (low ≤ n) × (n ≤ high)
 unfolding outside
 inside low high n e = let w = or_neither (ltb n low) (ltb high n) e in (ltb-false n low w.0, ltb-false high n w.1)
 
 -- ---- 7 to 9
 
-module _ (v : ℕ) (ends : List ℕ) (e : ℕ) (s : ℕ) (p : s ≡ seek (strange v ends) 0 e) where
-  pub pair_7 : s < e → pair_tests v ends e ≡ refused 7 s
+module _ (v : ℕ) (ends : List ℕ) (e : ℕ) (s : Option ℕ) (p : s ≡ find (strange v ends) (from 0 e)) where
+  pub pair_7 : (k : ℕ) → s ≡ Some k → pair_tests v ends e ≡ refused 7 k
   unfolding pair_tests
-  pair_7 h = rw (refuse_at_yes_lem 7 place_of_channel (strange v ends) e s p h)
+  pair_7 k h = rw (refuse_at_some 7 place_of_channel (strange v ends) e k (sym p ∙ h))
 
-  module _ (g : e ≤ s) (l : ℕ) (q : l ≡ seek (loop ends) 0 e) where
-    pub pair_8 : l < e → pair_tests v ends e ≡ refused 8 l
+  module _ (g : s ≡ None) (l : Option ℕ) (q : l ≡ find (loop ends) (from 0 e)) where
+    pub pair_8 : (k : ℕ) → l ≡ Some k → pair_tests v ends e ≡ refused 8 k
     unfolding pair_tests
-    pair_8 h = rw (refuse_at_no_lem 7 place_of_channel (strange v ends) e s p g, refuse_at_yes_lem 8 place_of_channel (loop ends) e l q h)
+    pair_8 k h = rw (refuse_at_none 7 place_of_channel (strange v ends) e (sym p ∙ g), refuse_at_some 8 place_of_channel (loop ends) e k (sym q ∙ h))
 
-    module _ (i : e ≤ l) (m : ℕ) (r : m ≡ seek (met_earlier ends) 0 e) where
-      pub pair_9 : m < e → pair_tests v ends e ≡ refused 9 m
+    module _ (i : l ≡ None) (m : Option ℕ) (r : m ≡ find (met_earlier ends) (from 0 e)) where
+      pub pair_9 : (k : ℕ) → m ≡ Some k → pair_tests v ends e ≡ refused 9 k
       unfolding pair_tests
-      pair_9 h = rw (refuse_at_no_lem 7 place_of_channel (strange v ends) e s p g, refuse_at_no_lem 8 place_of_channel (loop ends) e l q i, refuse_at_yes_lem 9 place_of_channel (met_earlier ends) e m r h)
+      pair_9 k h = rw (refuse_at_none 7 place_of_channel (strange v ends) e (sym p ∙ g), refuse_at_none 8 place_of_channel (loop ends) e (sym q ∙ i), refuse_at_some 9 place_of_channel (met_earlier ends) e k (sym r ∙ h))
 
-      pub pair_passed : e ≤ m → pair_tests v ends e ≡ passed
+      pub pair_passed : m ≡ None → pair_tests v ends e ≡ passed
       unfolding pair_tests
-      pair_passed h = rw (refuse_at_no_lem 7 place_of_channel (strange v ends) e s p g, refuse_at_no_lem 8 place_of_channel (loop ends) e l q i, refuse_at_no_lem 9 place_of_channel (met_earlier ends) e m r h)
+      pair_passed h = rw (refuse_at_none 7 place_of_channel (strange v ends) e (sym p ∙ g), refuse_at_none 8 place_of_channel (loop ends) e (sym q ∙ i), refuse_at_none 9 place_of_channel (met_earlier ends) e (sym r ∙ h))
 
 -- ---- 10 and 11
 
-module _ (v : ℕ) (ends : List ℕ) (play : List Bool) (a : ℕ) (p : a ≡ seek (apart v ends play) 0 v) where
-  pub piece_10 : a < v → piece_tests v ends play ≡ refused 10 a
+module _ (v : ℕ) (ends : List ℕ) (play : List Bool) (a : Option ℕ) (p : a ≡ find (apart v ends play) (from 0 v)) where
+  pub piece_10 : (k : ℕ) → a ≡ Some k → piece_tests v ends play ≡ refused 10 k
   unfolding piece_tests
-  piece_10 h = rw (refuse_at_yes_lem 10 itself (apart v ends play) v a p h)
+  piece_10 k h = rw (refuse_at_some 10 itself (apart v ends play) v k (sym p ∙ h))
 
-  module _ (g : v ≤ a) (w c : ℕ) (d : w ≡ v) (q : c ≡ seek (cuts w ends play) 0 w) where
-    cut_is : c ≡ seek (cuts v ends play) 0 v
-    cut_is = q ∙ ap (λ (n : ℕ). seek (cuts n ends play) 0 n) d
+  module _ (g : a ≡ None) (w : ℕ) (c : Option ℕ) (d : w ≡ v) (q : c ≡ find (cuts w ends play) (from 0 w)) where
+    cut_is : c ≡ find (cuts v ends play) (from 0 v)
+    cut_is = q ∙ ap (λ (n : ℕ). find (cuts n ends play) (from 0 n)) d
 
-    pub piece_11 : c < v → piece_tests v ends play ≡ refused 11 c
+    pub piece_11 : (k : ℕ) → c ≡ Some k → piece_tests v ends play ≡ refused 11 k
     unfolding piece_tests
-    piece_11 h = rw (refuse_at_no_lem 10 itself (apart v ends play) v a p g, refuse_at_yes_lem 11 itself (cuts v ends play) v c cut_is h)
+    piece_11 k h = rw (refuse_at_none 10 itself (apart v ends play) v (sym p ∙ g), refuse_at_some 11 itself (cuts v ends play) v k (sym cut_is ∙ h))
 
-    pub piece_passed : v ≤ c → piece_tests v ends play ≡ passed
+    pub piece_passed : c ≡ None → piece_tests v ends play ≡ passed
     unfolding piece_tests
-    piece_passed h = rw (refuse_at_no_lem 10 itself (apart v ends play) v a p g, refuse_at_no_lem 11 itself (cuts v ends play) v c cut_is h)
+    piece_passed h = rw (refuse_at_none 10 itself (apart v ends play) v (sym p ∙ g), refuse_at_none 11 itself (cuts v ends play) v (sym cut_is ∙ h))
 
 -- ---- a test of the code, and what is left
 
-pub passed_is : passed ≡ test_of Passed
+pub passed_is : passed ≡ test_of (Ok tt)
 unfolding test_of
 passed_is = refl
 
-pub refusal_is : (t : Test) (x : Refusal) → t ≡ Refused x → test_of t ≡ refused x.number x.place
+pub refusal_is : (t : Result (Unit {0}) Refusal) (x : Refusal) → t ≡ Err x → test_of t ≡ refused (number_of x.fault) x.place
 unfolding test_of
 refusal_is t x e = rw e
 
@@ -220,62 +226,58 @@ counted_pairs kind b h =
 
 -- ---- the three stages
 
-module _ (kind : Kind) (b : List ℕ) (t : Test) (p : test_of t ≡ mark_tests (format_of kind) b) where
-  pub file_stop_1 : (x : Refusal) → t ≡ Refused x → test_of t ≡ file_tests (format_of kind) b
+module _ (kind : Kind) (b : List ℕ) (t : Result (Unit {0}) Refusal) (p : test_of t ≡ mark_tests (format_of kind) b) where
+  pub file_stop_1 : (x : Refusal) → t ≡ Err x → test_of t ≡ file_tests (format_of kind) b
   unfolding file_tests
   file_stop_1 x e = refusal_is t x e ∙ sym (stops t x (mark_tests (format_of kind) b) _ p e)
 
-  module _ (e : t ≡ Passed) (u : Test) (q : test_of u ≡ count_tests (format_of kind) b) where
-    pub file_stop_2 : (x : Refusal) → u ≡ Refused x → test_of u ≡ file_tests (format_of kind) b
+  module _ (e : t ≡ Ok tt) (u : Result (Unit {0}) Refusal) (q : test_of u ≡ count_tests (format_of kind) b) where
+    pub file_stop_2 : (x : Refusal) → u ≡ Err x → test_of u ≡ file_tests (format_of kind) b
     unfolding file_tests
     file_stop_2 x d = refusal_is u x d ∙ sym (goes t (mark_tests (format_of kind) b) _ p e ∙ stops u x (count_tests (format_of kind) b) _ q d)
 
-    pub file_go : u ≡ Passed → (w : Test) → test_of w ≡ pair_tests (ports_in plate_file b) (ends_in plate_file b) (channels_in plate_file b) → test_of w ≡ file_tests (format_of kind) b
+    pub file_go : u ≡ Ok tt → (w : Result (Unit {0}) Refusal) → test_of w ≡ pair_tests (ports_in plate_file b) (ends_in plate_file b) (channels_in plate_file b) → test_of w ≡ file_tests (format_of kind) b
     unfolding file_tests
     file_go d w r =
         rw (r, goes t (mark_tests (format_of kind) b) _ p e, goes u (count_tests (format_of kind) b) _ q d, kind_ports b kind, kind_ends b kind, kind_channels b kind)
 
--- ---- a mark, byte by byte
+-- ---- a mark, whose bytes are not 0, so that a file without them all has another
 
-module _ (f : Format) (b m : List ℕ) (e : m ≡ f.mark) where
-  and_true : (x : Bool) → (x && true) ≡ x
-  and_true true = refl
-  and_true false = refl
+eqb_swap : (x y : ℕ) → eqb x y ≡ eqb y x
+eqb_swap x y = grind (arith, nat_tests)
 
-  other_mark_lem : other_mark f b ≡ not (eqb (get_or b 0 0) (get_or m 0 0) && (eqb (get_or b 1 0) (get_or m 1 0) && eqb (get_or b 2 0) (get_or m 2 0)))
-  unfolding other_mark all from
-  other_mark_lem = rw (← e, and_true (eqb (get_or b 2 0) (get_or m 2 0)))
-
-  pub other_first : (get_or b 0 0 ≡ get_or m 0 0 → ⊥) → true ≡ other_mark f b
-  other_first h = rw (other_mark_lem, ne_eqb (get_or b 0 0) (get_or m 0 0) h)
-
-  pub other_second : get_or b 0 0 ≡ get_or m 0 0 → (get_or b 1 0 ≡ get_or m 1 0 → ⊥) → true ≡ other_mark f b
-  other_second g h = rw (other_mark_lem, eq-eqb (get_or b 0 0) (get_or m 0 0) g, ne_eqb (get_or b 1 0) (get_or m 1 0) h)
-
-  pub other_third : (x y : ℕ) → x ≡ get_or b 2 0 → y ≡ get_or m 2 0 → get_or b 0 0 ≡ get_or m 0 0 → get_or b 1 0 ≡ get_or m 1 0 → not (eqb x y) ≡ other_mark f b
-  other_third x y p q g h = rw (other_mark_lem, eq-eqb (get_or b 0 0) (get_or m 0 0) g, eq-eqb (get_or b 1 0) (get_or m 1 0) h, p, q)
+pub mark_is : (kind : Kind) (b : List ℕ) → not (starts_with eqb b (format_of kind).mark) ≡ other_mark (format_of kind) b
+unfolding format_of other_mark all from text
+mark_is PlateKind [] = refl
+mark_is PlateKind (x ∷ []) = rw (eqb_swap x 70) refl
+mark_is PlateKind (x ∷ y ∷ []) = rw (eqb_swap x 70, eqb_swap y 80) refl
+mark_is PlateKind (x ∷ y ∷ z ∷ r) = rw (eqb_swap x 70, eqb_swap y 80, eqb_swap z 76) refl
+mark_is SheetKind [] = refl
+mark_is SheetKind (x ∷ []) = rw (eqb_swap x 70) refl
+mark_is SheetKind (x ∷ y ∷ []) = rw (eqb_swap x 70, eqb_swap y 84) refl
+mark_is SheetKind (x ∷ y ∷ z ∷ r) = rw (eqb_swap x 70, eqb_swap y 84, eqb_swap z 83) refl
 
 -- ---- the reader
 
-module _ (b : List ℕ) (t : Test) (p : test_of t ≡ file_tests (format_of PlateKind) b) where
+module _ (b : List ℕ) (t : Result (Unit {0}) Refusal) (p : test_of t ≡ file_tests (format_of PlateKind) b) where
   first_is : test_of t ≡ file_tests plate_file b
   unfolding format_of
   first_is = p
 
-  pub read_stop_1 : (x : Refusal) → t ≡ Refused x → reading_of (Unread x) b ≡ read_plate b
+  pub read_stop_1 : (x : Refusal) → t ≡ Err x → reading_of (Err x) b ≡ read_plate b
   unfolding reading_of
   read_stop_1 x e = sym (reading_is b ∙ stops t x (file_tests plate_file b) (pieces_in b >> given (plate_in b)) first_is e)
 
-  pub read_tested : t ≡ Passed → file_tests plate_file b ≡ passed
+  pub read_tested : t ≡ Ok tt → file_tests plate_file b ≡ passed
   read_tested e = test_passed t (file_tests plate_file b) first_is e
 
-  module _ (e : t ≡ Passed) (u : Test) (q : test_of u ≡ pieces_in b) where
-    pub read_stop_2 : (x : Refusal) → u ≡ Refused x → reading_of (Unread x) b ≡ read_plate b
+  module _ (e : t ≡ Ok tt) (u : Result (Unit {0}) Refusal) (q : test_of u ≡ pieces_in b) where
+    pub read_stop_2 : (x : Refusal) → u ≡ Err x → reading_of (Err x) b ≡ read_plate b
     unfolding reading_of
     read_stop_2 x d =
         sym (reading_is b ∙ goes t (file_tests plate_file b) (pieces_in b >> given (plate_in b)) first_is e ∙ stops u x (pieces_in b) (given (plate_in b)) q d)
 
-    pub read_go : u ≡ Passed → (c : Plate) → c.ports ≡ ports_in plate_file b → c.channels ≡ channels_in plate_file b → reading_of (Read c) b ≡ read_plate b
+    pub read_go : u ≡ Ok tt → (c : Plate) → c.ports ≡ ports_in plate_file b → c.channels ≡ channels_in plate_file b → reading_of (Ok c) b ≡ read_plate b
     unfolding reading_of
     read_go d c v n =
         rw (v, n) (sym (reading_is b ∙ goes t (file_tests plate_file b) (pieces_in b >> given (plate_in b)) first_is e ∙ goes u (pieces_in b) (given (plate_in b)) q d))

@@ -4,12 +4,13 @@
 --   no_ports, no_marks     for each port, the number 0; no mark
 --   all_channels          every channel in play
 --   copied from to       the list `to` with the elements of `from` at its start, as many as fit both
+--   ends_had b           the ports of the pairs that the file b has, all that it should have or fewer
 --   Whole v ends         the ends of a plate that is within the limits, all of v ports
 --   Room ..              room for the neighbours, the marks and the queue of a plate
 -- Assumes nothing.
-use Rattle.std.specs.Prelude.{◌≡◌, Bool, true, false, List, ◌++◌, ℕ, ◌*◌, ◌/◌, ◌≤◌, ◌<◌, min, length, take, drop, replicate}
+use Rattle.std.specs.Prelude.{◌≡◌, Bool, true, false, List, ◌++◌, ℕ, ◌-◌, ◌*◌, ◌/◌, ◌≤◌, ◌<◌, min, length, take, drop, replicate}
 use Rattle.rules.specs.Terms.{missing}
-use Rattle.rules.specs.Files.{limits1}
+use Rattle.rules.specs.Files.{limits1, plate_file, pairs_at, turns_at, channels_in}
 use Rattle.reach.specs.Neighbours.{Ports}
 use Rattle.reach.specs.Floods.{Sized}
 
@@ -33,6 +34,9 @@ all_channels = replicate limits1.most_channels true
 
 unfoldable pub copied : List ℕ → List ℕ → List ℕ
 copied from to = take (min (length from) (length to)) from ++ drop (min (length from) (length to)) to
+
+unfoldable pub ends_had : List ℕ → List ℕ
+ends_had b = take (turns_at plate_file (channels_in plate_file b) - pairs_at plate_file) (drop (pairs_at plate_file) b)
 
 -- ---- the room of tests 10 and 11
 

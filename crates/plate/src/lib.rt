@@ -1,18 +1,19 @@
 // The plate: its constants, the reader's answers, the tests of a file, and the reader of plate files.
 #![tactic(auto)]
 
-ghost use Rattle.std.specs.Prelude.{◌≡◌, true, not, min, ◌+◌, ◌*◌, ◌/◌, ◌<◌, ◌≤◌, length, get_or, replicate};
+ghost use Rattle.std.specs.Prelude.{◌≡◌, true, not, ◌+◌, ◌*◌, ◌/◌, ◌<◌, ◌≤◌, ◌∷◌, ◌++◌, length, get_or, replicate, decimal, Some};
 ghost use Rattle.rules.specs.Lists.{number};
 ghost use Rattle.rules.specs.Files.{plate_file, limits1, ports_in, channels_in, ends_in, file_length};
-ghost use Rattle.rules.specs.Refusals.{refused, outside, other_mark, mark_tests, count_tests, pair_tests, file_tests, passed, piece_tests, read_plate, pairs_part};
+ghost use Rattle.rules.specs.Refusals.{refused, other_mark, mark_tests, count_tests, pair_tests, file_tests, passed, piece_tests, read_plate, pairs_part};
 ghost use Rattle.pieces.specs.Lent.{Lent};
-ghost use Rattle.plate.specs.Answers.{format_of, test_of, reading_of, refusal_in};
-ghost use Rattle.plate.specs.State.{most_darts, no_ends, no_turns, all_channels, no_marks, no_ports, copied, Room, Whole};
+ghost use Rattle.plate.specs.Answers.{format_of, number_of, test_of, reading_of};
+ghost use Rattle.plate.specs.State.{most_darts, no_ends, no_turns, all_channels, no_marks, no_ports, copied, ends_had, Room, Whole};
 
-use numbers::wide8;
+use reach::Net;
+use std::fmt;
 
 // A plate that was read: its ports and its channels.
-#[derive(Clone, Copy)]
+#[derive(Clone, Copy, PartialEq, Eq)]
 pub struct Plate {
     pub ports: usize,
     pub channels: usize,
@@ -54,112 +55,100 @@ impl Plate {
 
     // The bytes that the listing call is to be lent: no listing has more.
     pub const MOST_LISTING: usize = 65536;
+}
 
-    // For each dart of the largest plate, port 0.
-    pub fn no_ends() -> [u16; Plate::MOST_DARTS]
-        ensures { (result ≡ no_ends) × (most_darts ≡ length result) }
-    {
-        [0u16; Plate::MOST_DARTS]
-    }
-
-    // For each dart of the largest plate, a missing turn.
-    pub fn no_turns() -> [u16; Plate::MOST_DARTS]
-        ensures { (result ≡ no_turns) × (most_darts ≡ length result) }
-    {
-        [Plate::MISSING; Plate::MOST_DARTS]
-    }
-
-    // Every channel of the largest plate in play.
-    pub fn all_channels() -> [bool; Plate::MOST_CHANNELS]
-        ensures { (result ≡ all_channels) × (limits1.most_channels ≡ length result) }
-    {
-        [true; Plate::MOST_CHANNELS]
-    }
-
-    // For each port of the largest plate, no mark.
-    pub fn no_marks() -> [bool; Plate::MOST_PORTS]
-        ensures { (result ≡ no_marks) × (limits1.most_ports ≡ length result) }
-    {
-        [false; Plate::MOST_PORTS]
-    }
-
-    // For each port of the largest plate, the number 0.
-    pub fn no_ports() -> [u16; Plate::MOST_PORTS]
-        ensures { (result ≡ no_ports) × (limits1.most_ports ≡ length result) }
-    {
-        [0u16; Plate::MOST_PORTS]
-    }
+// What is at fault, with document 01's number of its refusal.
+#[derive(Clone, Copy, PartialEq, Eq)]
+pub enum Fault {
+    Short = 1,
+    OtherMark = 2,
+    OtherVersion = 3,
+    PortsOutside = 4,
+    ChannelsOutside = 5,
+    OtherLength = 6,
+    Strange = 7,
+    Loop = 8,
+    MetEarlier = 9,
+    Apart = 10,
+    Cuts = 11,
+    WildTurn = 12,
+    AwayTurn = 13,
+    BrokenRing = 14,
+    Lent = 15,
+    Stuck = 16,
 }
 
 // A refusal with its place.
-#[derive(Clone, Copy)]
+#[derive(Clone, Copy, PartialEq, Eq)]
 pub struct Refusal {
-    pub number: u32,
-    pub place: u32,
+    pub fault: Fault,
+    pub place: u16,
 }
 
-// What a test gives: leave to go on, or a refusal.
-#[derive(Clone, Copy)]
-pub enum Test {
-    Passed,
-    Refused(Refusal),
+impl Refusal {
+    // Document 01's number of this refusal.
+    pub fn number(self) -> u32
+        ensures { result ≡ number_of self.fault }
+    {
+        self.fault as u32
+    }
+}
+
+// The number, a space and the place.
+impl fmt::Display for Refusal {
+    ghost output = { λ x. Some (decimal (number_of x.fault) ++ 32 ∷ decimal x.place) };
+
+    fn fmt<W: fmt::Write>(&self, f: &mut fmt::Formatter<W>) -> fmt::Result {
+        let number = self.number();
+        let place = self.place;
+        write!(f, "{number} {place}")
+    }
 }
 
 // The two kinds of file.
-#[derive(Clone, Copy)]
+#[derive(Clone, Copy, PartialEq, Eq)]
 pub enum Kind {
     Plate,
     Sheet,
 }
 
-// What reading a plate file gives.
-#[derive(Clone, Copy)]
-pub enum Reading {
-    Plate(Plate),
-    Refused(Refusal),
-}
-
 // ---- numbers in a file
 
 // The byte at i; 0 past the end.
-fn byte_at(file: &[u8], i: usize) -> usize
-    ensures { (result ≡ get_or file.now i 0) × (result < 256) }
+fn byte_at(file: &[u8], i: usize) -> u8
+    ensures { result ≡ get_or file.now i 0 }
 {
-    if file.len() <= i {
-        return 0;
-    }
-    wide8(file[i])
+    file.get(i).copied().unwrap_or(0)
 }
 
 // The number in the two bytes from i on, little-endian.
-fn word_at(file: &[u8], i: usize) -> usize
+fn word_at(file: &[u8], i: usize) -> u16
     requires { i < 65536 }
-    ensures { (result ≡ number 2 i file.now) × (result < 65536) }
+    ensures { result ≡ number 2 i file.now }
 {
-    let low = byte_at(file, i);
-    let high = byte_at(file, i + 1);
-    low + 256 * high
+    u16::from_le_bytes([byte_at(file, i), byte_at(file, i + 1)])
 }
 
 // V and E, as the bytes of the file give them.
 pub fn counts(file: &[u8]) -> Plate
     ensures { (result.ports ≡ ports_in plate_file file.now) × (result.channels ≡ channels_in plate_file file.now) }
 {
-    let ports = byte_at(file, Plate::PORTS_AT);
-    let channels = word_at(file, Plate::CHANNELS_AT);
-    Plate { ports, channels }
+    Plate {
+        ports: byte_at(file, Plate::PORTS_AT) as usize,
+        channels: word_at(file, Plate::CHANNELS_AT) as usize,
+    }
 }
 
 // ---- refusals
 
-// The refusal with this number at this place.
-fn refused(number: u32, place: usize) -> Test
+// The refusal for this fault at this place.
+fn refused(fault: Fault, place: usize) -> Result<(), Refusal>
     requires { place < 65536 }
-    ensures { test_of result ≡ refused number place }
+    ensures { test_of result ≡ refused (number_of fault) place }
 {
-    Test::Refused(Refusal {
-        number,
-        place: place as u32,
+    Err(Refusal {
+        fault,
+        place: place as u16,
     })
 }
 
@@ -179,43 +168,26 @@ fn mark_of(kind: Kind) -> [u8; 3]
 fn has_mark(kind: Kind, file: &[u8]) -> bool
     ensures { not result ≡ other_mark (format_of kind) file.now }
 {
-    let mark = mark_of(kind);
-    if byte_at(file, 0) != wide8(mark[0]) {
-        return false;
-    }
-    if byte_at(file, 1) != wide8(mark[1]) {
-        return false;
-    }
-    byte_at(file, 2) == wide8(mark[2])
+    file.starts_with(&mark_of(kind))
 }
 
 // Tests 1 to 3.
-fn mark_tests(kind: Kind, file: &[u8]) -> Test
+fn mark_tests(kind: Kind, file: &[u8]) -> Result<(), Refusal>
     ensures { test_of result ≡ mark_tests (format_of kind) file.now }
 {
     if file.len() < Plate::PAIRS_AT {
-        return refused(1, 0);
+        return refused(Fault::Short, 0);
     }
     if !has_mark(kind, file) {
-        return refused(2, 0);
+        return refused(Fault::OtherMark, 0);
     }
-    if word_at(file, Plate::VERSION_AT) != Plate::VERSION {
-        return refused(3, 0);
+    if word_at(file, Plate::VERSION_AT) as usize != Plate::VERSION {
+        return refused(Fault::OtherVersion, 0);
     }
-    Test::Passed
+    Ok(())
 }
 
 // ---- 4 to 6: the counts and the length
-
-// The number n is below low or above high.
-fn is_outside(low: usize, high: usize, n: usize) -> bool
-    ensures { result ≡ outside low high n }
-{
-    if n < low {
-        return true;
-    }
-    high < n
-}
 
 // The length of a file of this kind with so many channels.
 fn file_length(kind: Kind, channels: usize) -> usize
@@ -230,82 +202,63 @@ fn file_length(kind: Kind, channels: usize) -> usize
 }
 
 // Tests 4 to 6.
-fn count_tests(kind: Kind, file: &[u8]) -> Test
+fn count_tests(kind: Kind, file: &[u8]) -> Result<(), Refusal>
     ensures { test_of result ≡ count_tests (format_of kind) file.now }
 {
     let head = counts(file);
-    if is_outside(Plate::LEAST_PORTS, Plate::MOST_PORTS, head.ports) {
-        return refused(4, 0);
+    if !(Plate::LEAST_PORTS..=Plate::MOST_PORTS).contains(&head.ports) {
+        return refused(Fault::PortsOutside, 0);
     }
-    if is_outside(Plate::LEAST_CHANNELS, Plate::MOST_CHANNELS, head.channels) {
-        return refused(5, 0);
+    if !(Plate::LEAST_CHANNELS..=Plate::MOST_CHANNELS).contains(&head.channels) {
+        return refused(Fault::ChannelsOutside, 0);
     }
     if file.len() != file_length(kind, head.channels) {
-        return refused(6, 0);
+        return refused(Fault::OtherLength, 0);
     }
-    Test::Passed
+    Ok(())
 }
 
 // ---- 7 to 9: the pairs, as the ports that the darts leave
 
 // Tests 7 to 9.
-fn pair_tests(ends: &[u16], v: usize) -> Test
+fn pair_tests(ends: &[u16], v: usize) -> Result<(), Refusal>
     requires { length ends.now < 65536 }
     ensures { test_of result ≡ pair_tests v ends.now (length ends.now / 2) }
 {
-    let e = ends.len() / 2;
-    let strange = pairs::first_strange(ends, v);
-    let equal = pairs::first_loop(ends);
-    if strange < e {
-        return refused(7, strange);
+    if let Some(k) = pairs::first_strange(ends, v) {
+        return refused(Fault::Strange, k);
     }
-    if equal < e {
-        return refused(8, equal);
+    if let Some(k) = pairs::first_loop(ends) {
+        return refused(Fault::Loop, k);
     }
-    let repeated = pairs::first_met_earlier(ends);
-    if repeated < e {
-        return refused(9, repeated);
+    if let Some(k) = pairs::first_met_earlier(ends) {
+        return refused(Fault::MetEarlier, k);
     }
-    Test::Passed
-}
-
-// The smaller of two numbers.
-fn smaller(a: usize, b: usize) -> usize
-    ensures { result ≡ min a b }
-{
-    if a < b {
-        return a;
-    }
-    b
+    Ok(())
 }
 
 // The ports of the pairs at the start of `ends`, as many as fit both; the rest of `ends` stays.
 pub fn copy_ends(pairs: &[u8], ends: &mut [u16])
     ensures { ends.new ≡ copied pairs.now ends.old }
 {
-    let n = smaller(pairs.len(), ends.len());
-    let mut i = 0;
-    while i < n {
+    // (A `zip` would leave its iterator in the invariant: no plainer.)
+    let n = pairs.len().min(ends.len());
+    for i in 0..n {
         ends[i] = pairs[i] as u16;
-        i += 1;
     }
 }
 
-// The ports of the pairs of a file that has them all, then 0 for each further dart of the largest plate.
-fn ends_in(file: &[u8]) -> [u16; Plate::MOST_DARTS]
-    requires long { Plate.PAIRS_AT + 2 * channels_in plate_file file.now ≤ length file.now }
-    requires few { 2 * channels_in plate_file file.now ≤ most_darts }
-    ensures { (result ≡ copied (ends_in plate_file file.now) no_ends) × (most_darts ≡ length result) }
+// The ports of the pairs that a file has, at most all that it should have, then 0 for each further dart of the largest plate.
+pub fn ends_in(file: &[u8]) -> [u16; Plate::MOST_DARTS]
+    ensures { (result ≡ copied (ends_had file.now) no_ends) × (most_darts ≡ length result) }
 {
-    let head = counts(file);
-    let end = Plate::PAIRS_AT + 2 * head.channels;
-    let mut ends = Plate::no_ends();
-    copy_ends(&file[Plate::PAIRS_AT..end], &mut ends);
+    let mut ends = [0u16; Plate::MOST_DARTS];
+    copy_ends(pairs(file, Ok(counts(file))), &mut ends);
     ends
 }
 
-// Tests 7 to 9 of a file that has all its pairs.
-fn file_pair_tests(file: &[u8]) -> Test
+// Tests 7 to 9 of a file that has all its pairs. (`file_piece_tests` differs in the test alone: a function of both, given the test, would be no plainer.)
+fn file_pair_tests(file: &[u8]) -> Result<(), Refusal>
     requires long { Plate.PAIRS_AT + 2 * channels_in plate_file file.now ≤ length file.now }
     requires few { 2 * channels_in plate_file file.now ≤ most_darts }
     ensures { test_of result ≡ pair_tests (ports_in plate_file file.now) (ends_in plate_file file.now) (channels_in plate_file file.now) }
@@ -317,44 +270,28 @@ fn file_pair_tests(file: &[u8]) -> Test
 }
 
 // Tests 1 to 9 of a file of this kind.
-pub fn file_tests(kind: Kind, file: &[u8]) -> Test
+pub fn file_tests(kind: Kind, file: &[u8]) -> Result<(), Refusal>
     ensures { test_of result ≡ file_tests (format_of kind) file.now }
 {
-    let marks = mark_tests(kind, file);
-    let Test::Passed = marks else {
-        return marks;
-    };
-    let numbers = count_tests(kind, file);
-    let Test::Passed = numbers else {
-        return numbers;
-    };
+    mark_tests(kind, file)?;
+    count_tests(kind, file)?;
     file_pair_tests(file)
 }
 
 // ---- 10 and 11: the pieces
 
-// Tests 10 and 11, over the channels in play, with the neighbours in `first` and `more`. The last two are room to work in.
-fn flood_tests(
-    ends: &[u16],
-    first: &[u16],
-    more: &[u16],
-    play: &[bool],
-    marks: &mut [bool],
-    queue: &mut [u16],
-) -> Test
-    requires { Lent ends.now first.now more.now play.now marks.old queue.old }
-    ensures { test_of result ≡ piece_tests (length marks.old) ends.now play.now }
+// Tests 10 and 11, over the channels in play. The last two are room to work in.
+fn flood_tests(net: Net<'_>, marks: &mut [bool], queue: &mut [u16]) -> Result<(), Refusal>
+    requires { Lent (length net.first.now) marks.old queue.old }
+    ensures { test_of result ≡ piece_tests (length marks.old) net.entry.ends.now net.entry.play.now }
 {
-    let v = marks.len();
-    let apart = pieces::first_apart(ends, first, more, play, marks, queue);
-    if apart < v {
-        return refused(10, apart);
+    if let Some(p) = pieces::first_apart(net, marks, queue) {
+        return refused(Fault::Apart, p);
     }
-    let cut = pieces::first_cut(ends, first, more, play, marks, queue);
-    if cut < v {
-        return refused(11, cut);
+    if let Some(p) = pieces::first_cut(net, marks, queue) {
+        return refused(Fault::Cuts, p);
     }
-    Test::Passed
+    Ok(())
 }
 
 // Tests 10 and 11, over the channels in play. The last four are room to work in.
@@ -365,26 +302,32 @@ fn room_tests(
     more: &mut [u16],
     marks: &mut [bool],
     queue: &mut [u16],
-) -> Test
+) -> Result<(), Refusal>
     requires { Room ends.now play.now first.old more.old marks.old queue.old }
     ensures { test_of result ≡ piece_tests (length marks.old) ends.now play.now }
 {
     reach::neighbours(ends, first, more);
-    flood_tests(ends, first, more, play, marks, queue)
+    let net = Net {
+        ends,
+        first,
+        more,
+        play,
+    };
+    flood_tests(net, marks, queue)
 }
 
 // Tests 10 and 11 of a plate of v ports, with every channel in play.
-fn piece_tests(ends: &[u16], v: usize) -> Test
+fn piece_tests(ends: &[u16], v: usize) -> Result<(), Refusal>
     requires { Whole v ends.now }
     ensures { test_of result ≡ piece_tests v ends.now (replicate (length ends.now / 2) true) }
 {
     let e = ends.len() / 2;
     let darts = ends.len();
-    let play = Plate::all_channels();
-    let mut first = Plate::no_ports();
-    let mut more = Plate::no_ends();
-    let mut marks = Plate::no_marks();
-    let mut queue = Plate::no_ports();
+    let play = [true; Plate::MOST_CHANNELS];
+    let mut first = [0u16; Plate::MOST_PORTS];
+    let mut more = [0u16; Plate::MOST_DARTS];
+    let mut marks = [false; Plate::MOST_PORTS];
+    let mut queue = [0u16; Plate::MOST_PORTS];
     room_tests(
         ends,
         &play[..e],
@@ -396,7 +339,7 @@ fn piece_tests(ends: &[u16], v: usize) -> Test
 }
 
 // Tests 10 and 11 of a plate file that passed tests 1 to 9.
-fn file_piece_tests(file: &[u8]) -> Test
+fn file_piece_tests(file: &[u8]) -> Result<(), Refusal>
     requires { file_tests plate_file file.now ≡ passed }
     ensures { test_of result ≡ piece_tests (ports_in plate_file file.now) (ends_in plate_file file.now) (replicate (channels_in plate_file file.now) true) }
 {
@@ -409,41 +352,22 @@ fn file_piece_tests(file: &[u8]) -> Test
 // ---- the reader
 
 // The plate of a plate file, or the refusal with the lowest number that applies.
-pub fn read(file: &[u8]) -> Reading
+pub fn read(file: &[u8]) -> Result<Plate, Refusal>
     ensures { reading_of result file.now ≡ read_plate file.now }
 {
-    let tested = file_tests(Kind::Plate, file);
-    if let Test::Refused(x) = tested {
-        return Reading::Refused(x);
-    }
-    let joined = file_piece_tests(file);
-    if let Test::Refused(x) = joined {
-        return Reading::Refused(x);
-    }
-    Reading::Plate(counts(file))
-}
-
-// The refusal of a reading that has one, and 0 at 0 of one that has none.
-pub fn refusal_in(got: Reading) -> Refusal
-    ensures { result ≡ refusal_in got }
-{
-    match got {
-        Reading::Plate(_) => Refusal {
-            number: 0,
-            place: 0,
-        },
-        Reading::Refused(x) => x,
-    }
+    file_tests(Kind::Plate, file)?;
+    file_piece_tests(file)?;
+    Ok(counts(file))
 }
 
 // The pairs of a file that was read, as that part of it; empty where it was refused.
-pub fn pairs(file: &[u8], got: Reading) -> &[u8]
+pub fn pairs(file: &[u8], got: Result<Plate, Refusal>) -> &[u8]
     ensures { let b = file.now in result.now ≡ pairs_part (reading_of got b) b }
 {
-    let Reading::Plate(p) = got else {
+    let Ok(p) = got else {
         return &file[..0];
     };
-    let start = smaller(Plate::PAIRS_AT, file.len());
+    let start = Plate::PAIRS_AT.min(file.len());
     let room = file.len() - start;
     if room / 2 < p.channels {
         return &file[start..];

@@ -1,8 +1,8 @@
 -- The digits of a number are those of its tenth and one digit more.
 -- enough: any fuel above the number gives the same digits. decimal_low, decimal_high: the digits of a number below ten, and of one of ten or more.
--- decimal_few: a number below 100,000 has at most five digits. tenth_..: the digits of the tenth and a digit more, and the room for them.
+-- decimal_few: a number below 100,000 has at most five digits. tenth_cut: the digits of the tenth, and one digit more.
 -- Assumes nothing.
-use mathlib.Core.Path.{◌≡◌, refl, sym, ap, ◌∙◌, subst}
+use mathlib.Core.Path.{◌≡◌, refl, sym, ap, ◌∙◌}
 use mathlib.Core.Bool.{Bool, true, false}
 use mathlib.Core.List.{List, [], ◌∷◌, ◌++◌}
 use Prim.Native.Nat.{ℕ, zero, suc, ◌+◌, ◌/◌, ◌%◌, ◌<◌, ◌≤◌}
@@ -12,8 +12,7 @@ use borrow.Author.Tests.{lt-ltb, le-ltb}
 use lib.Dec.{ltb, ltb→lt, nltb→le}
 use lib.ListN.{length, length-append}
 use Rattle.rules.specs.Listing.{digits, decimal}
-use Rattle.print.specs.Puts.{Put}
-use Rattle.print.proofs.Putting.{put_size}
+use Rattle.print.proofs.Putting.{Cut}
 
 low : (m n : ℕ) → n < 10 → digits (suc m) n ≡ (48 + n % 10) ∷ []
 unfolding digits
@@ -42,7 +41,7 @@ pub decimal_low : (n : ℕ) → n < 10 → decimal n ≡ (48 + n % 10) ∷ []
 unfolding decimal
 decimal_low n h = low n n h
 
-pub decimal_high : (n : ℕ) → 10 ≤ n → decimal n ≡ decimal (n / 10) ++ ((48 + n % 10) ∷ [])
+decimal_high : (n : ℕ) → 10 ≤ n → decimal n ≡ decimal (n / 10) ++ ((48 + n % 10) ∷ [])
 unfolding decimal
 decimal_high n h = high n n h ∙ ap (λ (d : List ℕ). d ++ ((48 + n % 10) ∷ [])) (enough n (suc (n / 10)) (n / 10) (omega arith) (omega arith))
 
@@ -58,17 +57,6 @@ ten m k f n h = split (length (decimal n) ≤ suc (suc k)) n (λ l. omega (arith
 pub decimal_few : (n : ℕ) → n < 100000 → length (decimal n) ≤ 5
 decimal_few n h = ten 10000 3 (λ n h. ten 1000 2 (λ n h. ten 100 1 (λ n h. ten 10 0 (λ n h. omega (arith, ap length (decimal_low n h))) n (omega arith)) n (omega arith)) n (omega arith)) n (omega arith)
 
--- ---- what `put_decimal` writes: the digits of the tenth, and the digit x
-
-module _ (n x : ℕ) (h : 10 ≤ n) (e : x ≡ 48 + n % 10) where
-  pub tenth_digit : decimal (n / 10) ++ (x ∷ []) ≡ decimal n
-  tenth_digit = ap (λ (y : ℕ). decimal (n / 10) ++ (y ∷ [])) e ∙ sym (decimal_high n h)
-
-  pub tenth_room : (at m : ℕ) → at + length (decimal n) ≤ m → at + length (decimal (n / 10) ++ (x ∷ [])) ≤ m
-  tenth_room at m l = subst (λ (d : List ℕ). at + length d ≤ m) (sym tenth_digit) l
-
-  pub tenth_less : (at m : ℕ) → at + length (decimal n) ≤ m → at + length (decimal (n / 10)) ≤ m
-  tenth_less at m l = omega (arith, tenth_room at m l, length-append (decimal (n / 10)) (x ∷ []))
-
-  pub tenth_next : (at : ℕ) (a b : List ℕ) (r : ℕ) → at + length (decimal n) ≤ length a → Put (decimal (n / 10)) at a b r → r + 1 ≤ length b
-  tenth_next at a b r l p = omega (arith, p.stop, tenth_room at (length a) l, length-append (decimal (n / 10)) (x ∷ []), put_size (tenth_less at (length a) l) p)
+-- the digits of the tenth apart
+pub tenth_cut : (n : ℕ) → 10 ≤ n → Cut (decimal n) (decimal (n / 10)) ((48 + n % 10) ∷ [])
+tenth_cut n h = record { is = decimal_high n h }

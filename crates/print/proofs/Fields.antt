@@ -1,20 +1,23 @@
 -- Fields are written one behind another.
---   Going t n k e     k of n darts clockwise are passed and e is the next: those that are left have turns
--- fields_cons: the first field apart. fields_one: a field is a blank and the digits. fields_drop, fields_end: those of what is left of a list, behind a dart more and at its end. ring_..: those of what is left of a ring. land_..: those of what is left of a land. below_at: what holds of every number of a list.
+-- fields_cons: the first field apart. fields_append: those of two lists. fields_one: a field is a blank and the digits. fields_room: the first fields are no longer than all of them.
+-- gave_..: what a function that is handed over has given for the first numbers of a list; for one more; for all; where what it gives is known.
+-- led_..: the same of one that leads from each number to the next. land_.., ring_..: where it is the rule of lands, or the turns.
+-- below_at: what holds of every number of a list.
 -- Assumes nothing.
 use mathlib.Core.Path.{◌≡◌, refl, sym, ap, ◌∙◌, subst}
-use mathlib.Core.List.{List, [], ◌∷◌, ◌++◌, map, append-nil}
+use mathlib.Core.List.{List, [], ◌∷◌, ◌++◌, map, append_assoc, append-nil, map-append}
 use Prim.Native.Nat.{ℕ, zero, suc, ◌+◌, ◌-◌, ◌<◌, ◌≤◌}
 use native.Mathlib.Nat.{not-suc-le-zero}
 use native.Mathlib.Numerals.{add-one}
 use native.Mathlib.Omega.{arith}
-use lib.ListN.{length, get_or, drop, drop_of_length-le}
-use lib.Seq.{drop-cons}
+use lib.ListN.{length, get_or, take, drop, length-append, take-append-drop}
+use lib.Seq.{take-suc}
 use Rattle.rules.specs.Terms.{next, ring}
 use Rattle.rules.specs.Listing.{decimal, fields}
-use Rattle.land.specs.Walks.{land_from, Below}
-use Rattle.land.proofs.Walking.{from_step, from_end}
-use Rattle.print.proofs.Putting.{Cut}
+use Rattle.land.specs.Walks.{land_from, Below, Darts}
+use Rattle.print.specs.declared.Out.{Out}
+use Rattle.print.specs.Puts.{Room, Wrote, Gave, Led}
+use Rattle.print.proofs.Putting.{Cut, wrote_none, wrote_size, wrote_then, wrote_as}
 
 pub fields_cons : (n : ℕ) (ns : List ℕ) → fields (n ∷ ns) ≡ fields (n ∷ []) ++ fields ns
 unfolding fields
@@ -24,70 +27,194 @@ pub fields_one : (n : ℕ) → Cut (fields (n ∷ [])) (32 ∷ []) (decimal n)
 unfolding fields
 fields_one n = record { is = ap (λ (d : List ℕ). 32 ∷ d) (append-nil (decimal n)) }
 
-pub fields_none : fields [] ≡ []
+fields_none : fields [] ≡ []
 unfolding fields
 fields_none = refl
 
-pub below_at : (n : ℕ) (l : List ℕ) (i : ℕ) → Below n l → i < length l → get_or l i 0 < n
-below_at n [] i b h = absurd (not-suc-le-zero h)
-below_at n (d ∷ l) zero b h = b.0
-below_at n (d ∷ l) (suc i) b h = below_at n l i b.1 (omega arith)
+pub fields_append : (ns ms : List ℕ) → fields (ns ++ ms) ≡ fields ns ++ fields ms
+fields_append [] ms = ap (λ (l : List ℕ). l ++ fields ms) (sym fields_none)
+fields_append (n ∷ ns) ms =
+    fields_cons n (ns ++ ms) ∙ ap (λ (l : List ℕ). fields (n ∷ []) ++ l) (fields_append ns ms)
+    ∙ sym (append_assoc (fields (n ∷ [])) (fields ns) (fields ms)) ∙ ap (λ (l : List ℕ). l ++ fields ms) (sym (fields_cons n ns))
 
--- ---- a list of darts
+fields_room : (ns ms : List ℕ) → length (fields ns) ≤ length (fields (ns ++ ms))
+fields_room ns ms = omega (arith, ap length (fields_append ns ms), length-append (fields ns) (fields ms))
 
-pub fields_drop : (f : ℕ → ℕ) (l : List ℕ) (i x : ℕ) → i < length l → x ≡ f (get_or l i 0) → Cut (fields (map f (drop i l))) (fields (x ∷ [])) (fields (map f (drop (i + 1) l)))
-fields_drop f l i x h e = record {
-  is = ap (λ (m : List ℕ). fields (map f m)) (drop-cons l i 0 h ∙ ap (λ (k : ℕ). get_or l i 0 ∷ drop k l) (sym (add-one i)))
-      ∙ fields_cons (f (get_or l i 0)) (map f (drop (i + 1) l)) ∙ ap (λ (y : ℕ). fields (y ∷ []) ++ fields (map f (drop (i + 1) l))) (sym e);
-}
+pub below_at : (n : ℕ) (l : List ℕ) → Below n l → (i x : ℕ) → i < length l → get_or l i x < n
+below_at n [] b i x h = absurd (not-suc-le-zero h)
+below_at n (d ∷ l) b zero x h = b.0
+below_at n (d ∷ l) b (suc i) x h = below_at n l b.1 i x (omega arith)
 
-pub fields_end : (f : ℕ → ℕ) (l : List ℕ) (i : ℕ) → length l ≤ i → fields (map f (drop i l)) ≡ []
-fields_end f l i h = ap (λ (m : List ℕ). fields (map f m)) (drop_of_length-le l h) ∙ fields_none
+below_in : (n : ℕ) (l : List ℕ) (d : ℕ) (m : List ℕ) → Below n (l ++ (d ∷ []) ++ m) → d < n
+below_in n [] d m b = b.0
+below_in n (c ∷ l) d m b = below_in n l d m b.1
 
--- ---- a land
+-- ---- one field more
 
-pub land_step : (t : List ℕ) (n k e e' : ℕ) → k < n → e' ≡ next t e → Cut (fields (land_from t (n - k) e)) (fields (e ∷ [])) (fields (land_from t (n - (k + 1)) e'))
-land_step t n k e e' h s = record { is = ap fields (from_step t n k e e' h s) ∙ fields_cons e (land_from t (n - (k + 1)) e') }
+-- the fields of ns are written, and then that of n
+more : (ns : List ℕ) (n : ℕ) (a b c : Out) → Room (fields ns) a → Wrote (fields ns) a b → Wrote (fields (n ∷ [])) b c → Wrote (fields (ns ++ (n ∷ []))) a c
+more ns n a b c lent p q = wrote_as (sym (fields_append ns (n ∷ []))) (wrote_then lent p q)
 
-pub land_end : (t : List ℕ) (n k e : ℕ) → n ≤ k → fields (land_from t (n - k) e) ≡ []
-land_end t n k e h = ap fields (from_end t n k e h) ∙ fields_none
+none : (o : Out) → Wrote (fields []) o o
+none o = wrote_as (sym fields_none) (wrote_none o)
 
--- ---- a ring
+-- there is room for it
+next_room : (ns : List ℕ) (n : ℕ) (a b : Out) → Wrote (fields ns) a b → Room (fields (ns ++ (n ∷ []))) a → Room (fields (n ∷ [])) b
+next_room ns n a b p h =
+    let lent : Room (fields ns) a = omega (arith, h, fields_room ns (n ∷ [])) in
+    omega (arith, p.put.stop, wrote_size lent p, h, ap length (fields_append ns (n ∷ [])), length-append (fields ns) (fields (n ∷ [])))
 
-ring_on : (t : List ℕ) (n k e e' : ℕ) → k < n → e' ≡ get_or t e 0 → ring t (n - k) e ≡ e ∷ ring t (n - (k + 1)) e'
+-- ---- what a function has given for each number of a list
+
+gave_more : (post : ℕ → ℕ → Type 0) (ds ns : List ℕ) (d n : ℕ) → Gave post ds ns → post d n → Gave post (ds ++ (d ∷ [])) (ns ++ (n ∷ []))
+gave_more post [] [] d n g p = (p, tt)
+gave_more post [] (m ∷ ns) d n g p = absurd g
+gave_more post (c ∷ ds) [] d n g p = absurd g
+gave_more post (c ∷ ds) (m ∷ ns) d n g p = (g.0, gave_more post ds ns d n g.1 p)
+
+-- where it is known what it gives
+gave_known : (post : ℕ → ℕ → Type 0) (f : ℕ → ℕ) → ((d n : ℕ) → post d n → n ≡ f d) → (ds ns : List ℕ) → Gave post ds ns → ns ≡ map f ds
+gave_known post f k [] [] g = refl
+gave_known post f k [] (n ∷ ns) g = absurd g
+gave_known post f k (d ∷ ds) [] g = absurd g
+gave_known post f k (d ∷ ds) (n ∷ ns) g = ap (λ (m : ℕ). m ∷ ns) (k d n g.0) ∙ ap (λ (l : List ℕ). f d ∷ l) (gave_known post f k ds ns g.1)
+
+-- there is room for what it gives for the first i
+pub gave_room : (post : ℕ → ℕ → Type 0) (f : ℕ → ℕ) → ((d n : ℕ) → post d n → n ≡ f d) → (ds : List ℕ) (o : Out) → Room (fields (map f ds)) o
+    → (i : ℕ) (ns : List ℕ) → Gave post (take i ds) ns → Room (fields ns) o
+gave_room post f k ds o h i ns g =
+    let e : map f ds ≡ ns ++ map f (drop i ds) = ap (map f) (sym (take-append-drop i ds)) ∙ map-append f (take i ds) (drop i ds) ∙ ap (λ (l : List ℕ). l ++ map f (drop i ds)) (sym (gave_known post f k (take i ds) ns g)) in
+    omega (arith, h, ap (λ (l : List ℕ). length (fields l)) e, fields_room ns (map f (drop i ds)))
+
+pub gave_all : (post : ℕ → ℕ → Type 0) (f : ℕ → ℕ) → ((d n : ℕ) → post d n → n ≡ f d) → (ds : List ℕ) (o n : Out) → (ns : List ℕ) × Gave post ds ns × Wrote (fields ns) o n → Wrote (fields (map f ds)) o n
+gave_all post f k ds o n p = wrote_as (ap fields (gave_known post f k ds p.0 p.1)) p.2
+
+-- i of the numbers ds are passed: the fields of what it gave for them are written
+pub record Giving (post : ℕ → ℕ → Type 0) (ds : List ℕ) (i : ℕ) (o n : Out) : Type 0 where
+  pub given : List ℕ
+  pub gave : Gave post (take i ds) given
+  pub wrote : Wrote (fields given) o n
+
+pub giving_start : (post : ℕ → ℕ → Type 0) (ds : List ℕ) (o : Out) → Giving post ds 0 o o
+giving_start post ds o = record { given = []; gave = tt; wrote = none o }
+
+module _ (post : ℕ → ℕ → Type 0) (ds : List ℕ) (i : ℕ) (a b : Out) (room : (i : ℕ) (ns : List ℕ) → Gave post (take i ds) ns → Room (fields ns) a) (h : i < length ds) (g : Giving post ds i a b) (n : ℕ) (p : post (get_or ds i 0) n) where
+  one : Gave post (take (i + 1) ds) (g.given ++ (n ∷ []))
+  one = subst (λ (l : List ℕ). Gave post l (g.given ++ (n ∷ []))) (sym (ap (λ (k : ℕ). take k ds) (add-one i) ∙ take-suc ds i 0 h)) (gave_more post (take i ds) g.given (get_or ds i 0) n g.gave p)
+
+  pub giving_room : Room (fields (n ∷ [])) b
+  giving_room = next_room g.given n a b g.wrote (room (i + 1) (g.given ++ (n ∷ [])) one)
+
+  pub giving_step : (c : Out) → Wrote (fields (n ∷ [])) b c → Giving post ds (i + 1) a c
+  giving_step c q = record { given = g.given ++ (n ∷ []); gave = one; wrote = more g.given n a b c (room i g.given g.gave) g.wrote q }
+
+-- ---- where a function has led
+
+led_more : (post : ℕ → ℕ → Type 0) (d : ℕ) (ds : List ℕ) (e e' : ℕ) → Led post d ds e → post e e' → Led post d (ds ++ (e ∷ [])) e'
+led_more post d [] e e' l p = (l, (e', p, refl))
+led_more post d (x ∷ ds) e e' l p = (l.0, (l.1.0, l.1.1, led_more post l.1.0 ds e e' l.1.2 p))
+
+pub record Leading (post : ℕ → ℕ → Type 0) (d k e : ℕ) (o n : Out) : Type 0 where
+  pub passed : List ℕ
+  pub led : Led post d passed e
+  pub number : length passed ≡ k
+  pub wrote : Wrote (fields passed) o n
+
+pub leading_start : (post : ℕ → ℕ → Type 0) (d : ℕ) (o : Out) → Leading post d 0 d o o
+leading_start post d o = record { passed = []; led = refl; number = refl; wrote = none o }
+
+module _ (post : ℕ → ℕ → Type 0) (d k e : ℕ) (a b : Out) (n : ℕ) (room : (ds : List ℕ) (e : ℕ) → Led post d ds e → length ds < n → Room (fields (ds ++ (e ∷ []))) a) (h : k < n) (g : Leading post d k e a b) where
+  less : length g.passed < n
+  less = omega (arith, g.number)
+
+  pub leading_pre : (pre : ℕ → Type 0) → ((ds : List ℕ) (e : ℕ) → Led post d ds e → length ds < n → pre e) → pre e
+  leading_pre pre f = f g.passed e g.led less
+
+  pub leading_room : Room (fields (e ∷ [])) b
+  leading_room = next_room g.passed e a b g.wrote (room g.passed e g.led less)
+
+  pub leading_step : (e' : ℕ) → post e e' → (c : Out) → Wrote (fields (e ∷ [])) b c → Leading post d (k + 1) e' a c
+  leading_step e' p c q =
+      let lent : Room (fields g.passed) a = omega (arith, fields_room g.passed (e ∷ []), room g.passed e g.led less) in
+      record {
+        passed = g.passed ++ (e ∷ []);
+        led = led_more post d g.passed e e' g.led p;
+        number = length-append g.passed (e ∷ []) ∙ ap (λ (m : ℕ). m + 1) g.number;
+        wrote = more g.passed e a b c lent g.wrote q;
+      }
+
+-- where it is known where it leads: the n numbers from d on are W n d
+module _ (post : ℕ → ℕ → Type 0) (f : ℕ → ℕ) (W : ℕ → ℕ → List ℕ) (zeroth : (d : ℕ) → W 0 d ≡ []) (onward : (n d : ℕ) → W (suc n) d ≡ d ∷ W n (f d)) (known : (d e : ℕ) → post d e → e ≡ f d) where
+  led_walk : (n d : ℕ) (ds : List ℕ) (e : ℕ) → Led post d ds e → length ds ≤ n → W n d ≡ ds ++ W (n - length ds) e
+  led_walk n d [] e l h = ap (λ (m : ℕ). W m d) same ∙ ap (W (n - 0)) l
+    where
+      same : n ≡ n - 0
+      same = omega arith
+  led_walk zero d (x ∷ ds) e l h = absurd (not-suc-le-zero h)
+  led_walk (suc n) d (x ∷ ds) e l h =
+      onward n d ∙ ap (λ (y : ℕ). d ∷ W n y) (ap f l.0 ∙ sym (known x l.1.0 l.1.1)) ∙ ap (λ (y : ℕ). y ∷ W n l.1.0) l.0
+      ∙ ap (λ (m : List ℕ). x ∷ m) (led_walk n l.1.0 ds e l.1.2 (omega arith)) ∙ ap (λ (m : ℕ). x ∷ ds ++ W m e) same
+    where
+      same : n - length ds ≡ suc n - length (x ∷ ds)
+      same = omega arith
+
+  module _ (n d : ℕ) where
+    -- one more is of the walk
+    led_one : (ds : List ℕ) (e : ℕ) → Led post d ds e → length ds < n → W n d ≡ ds ++ (e ∷ []) ++ W (n - (length ds + 1)) (f e)
+    led_one ds e l h = led_walk n d ds e l (omega arith) ∙ ap (λ (m : ℕ). ds ++ W m e) fuel ∙ ap (λ (w : List ℕ). ds ++ w) (onward (n - (length ds + 1)) e) ∙ sym (append_assoc ds (e ∷ []) (W (n - (length ds + 1)) (f e)))
+      where
+        fuel : n - length ds ≡ suc (n - (length ds + 1))
+        fuel = omega arith
+
+    pub led_room : (o : Out) → Room (fields (W n d)) o → (ds : List ℕ) (e : ℕ) → Led post d ds e → length ds < n → Room (fields (ds ++ (e ∷ []))) o
+    led_room o h ds e l k = omega (arith, h, ap (λ (w : List ℕ). length (fields w)) (led_one ds e l k), fields_room (ds ++ (e ∷ [])) (W (n - (length ds + 1)) (f e)))
+
+    pub led_below : (m : ℕ) → Below m (W n d) → (ds : List ℕ) (e : ℕ) → Led post d ds e → length ds < n → e < m
+    led_below m b ds e l h = below_in m ds e (W (n - (length ds + 1)) (f e)) (subst (Below m) (led_one ds e l h) b)
+
+    pub led_all : (a b : Out) → (ds : List ℕ) × (e : ℕ) × Led post d ds e × (length ds ≡ n) × Wrote (fields ds) a b → Wrote (fields (W n d)) a b
+    led_all a b p = wrote_as (ap fields (sym all)) p.4
+      where
+        rest : n - length p.0 ≡ 0
+        rest = omega (arith, p.3)
+
+        all : W n d ≡ p.0
+        all = led_walk n d p.0 p.1 p.2 (omega (arith, p.3)) ∙ ap (λ (m : ℕ). p.0 ++ W m p.1) rest ∙ ap (λ (w : List ℕ). p.0 ++ w) (zeroth p.1) ∙ append-nil p.0
+
+-- the rule of lands, and the turns
+
+land_zero : (t : List ℕ) (d : ℕ) → land_from t 0 d ≡ []
+unfolding land_from
+land_zero t d = refl
+
+land_on : (t : List ℕ) (n d : ℕ) → land_from t (suc n) d ≡ d ∷ land_from t n (next t d)
+unfolding land_from
+land_on t n d = refl
+
+ring_zero : (t : List ℕ) (d : ℕ) → ring t 0 d ≡ []
 unfolding ring
-ring_on t n k e e' h s = ap (λ (m : ℕ). ring t m e) fuel ∙ ap (λ (x : ℕ). e ∷ ring t (n - (k + 1)) x) (sym s)
-  where
-    fuel : n - k ≡ suc (n - (k + 1))
-    fuel = omega arith
+ring_zero t d = refl
 
-pub ring_step : (t : List ℕ) (n k e e' : ℕ) → k < n → e' ≡ get_or t e 0 → Cut (fields (ring t (n - k) e)) (fields (e ∷ [])) (fields (ring t (n - (k + 1)) e'))
-ring_step t n k e e' h s = record { is = ap fields (ring_on t n k e e' h s) ∙ fields_cons e (ring t (n - (k + 1)) e') }
+ring_on : (t : List ℕ) (n d : ℕ) → ring t (suc n) d ≡ d ∷ ring t n (get_or t d 0)
+unfolding ring
+ring_on t n d = refl
 
-pub ring_end : (t : List ℕ) (n k e : ℕ) → n ≤ k → fields (ring t (n - k) e) ≡ []
-unfolding ring fields
-ring_end t n k e h = ap (λ (m : ℕ). fields (ring t m e)) none
-  where
-    none : n - k ≡ 0
-    none = omega arith
+module _ (post : ℕ → ℕ → Type 0) (t : List ℕ) (known : (d e : ℕ) → post d e → e ≡ next t d) (n d : ℕ) where
+  pub land_room : (o : Out) → Room (fields (land_from t n d)) o → (ds : List ℕ) (e : ℕ) → Led post d ds e → length ds < n → Room (fields (ds ++ (e ∷ []))) o
+  land_room = led_room post (next t) (λ n d. land_from t n d) (land_zero t) (land_on t) known n d
 
-pub record Going (t : List ℕ) (n k e : ℕ) : Type 0 where
-  pub most : k ≤ n
-  pub darts : Below (length t) (ring t (n - k) e)
+  pub land_below : Darts t (land_from t n d) → (ds : List ℕ) (e : ℕ) → Led post d ds e → length ds < n → Darts t (e ∷ [])
+  land_below w ds e l h = record { even = w.even; few = w.few; inside = (led_below post (next t) (λ n d. land_from t n d) (land_zero t) (land_on t) known n d (length t) w.inside ds e l h, tt) }
 
-pub ring_start : (t : List ℕ) (n d : ℕ) → ring t n d ≡ ring t (n - 0) d
-ring_start t n d = ap (λ (m : ℕ). ring t m d) (omega arith)
+  pub land_all : (a b : Out) → (ds : List ℕ) × (e : ℕ) × Led post d ds e × (length ds ≡ n) × Wrote (fields ds) a b → Wrote (fields (land_from t n d)) a b
+  land_all = led_all post (next t) (λ n d. land_from t n d) (land_zero t) (land_on t) known n d
 
-pub going_start : (t : List ℕ) (n d : ℕ) → Below (length t) (ring t n d) → Going t n 0 d
-going_start t n d h = record { most = omega arith; darts = subst (Below (length t)) (ring_start t n d) h }
+module _ (post : ℕ → ℕ → Type 0) (t : List ℕ) (known : (d e : ℕ) → post d e → e ≡ get_or t d 0) (n d : ℕ) where
+  pub ring_room : (o : Out) → Room (fields (ring t n d)) o → (ds : List ℕ) (e : ℕ) → Led post d ds e → length ds < n → Room (fields (ds ++ (e ∷ []))) o
+  ring_room = led_room post (λ d. get_or t d 0) (λ n d. ring t n d) (ring_zero t) (ring_on t) known n d
 
-pub going_dart : (t : List ℕ) (n k e : ℕ) → k < n → Going t n k e → e < length t
-going_dart t n k e h g = (subst (Below (length t)) (ring_on t n k e (get_or t e 0) h refl) g.darts).0
+  pub ring_below : Below (length t) (ring t n d) → (ds : List ℕ) (e : ℕ) → Led post d ds e → length ds < n → e < length t
+  ring_below = led_below post (λ d. get_or t d 0) (λ n d. ring t n d) (ring_zero t) (ring_on t) known n d (length t)
 
-pub going_step : (t : List ℕ) (n k e e' : ℕ) → k < n → e' ≡ get_or t e 0 → Going t n k e → Going t n (k + 1) e'
-going_step t n k e e' h s g = record { most = omega arith; darts = (subst (Below (length t)) (ring_on t n k e e' h s) g.darts).1 }
-
--- ---- a word
-
-pub drop_one : (l : List ℕ) (i : ℕ) → i < length l → Cut (drop i l) (get_or l i 0 ∷ []) (drop (i + 1) l)
-drop_one l i h = record { is = drop-cons l i 0 h ∙ ap (λ (k : ℕ). get_or l i 0 ∷ drop k l) (sym (add-one i)) }
+  pub ring_all : (a b : Out) → (ds : List ℕ) × (e : ℕ) × Led post d ds e × (length ds ≡ n) × Wrote (fields ds) a b → Wrote (fields (ring t n d)) a b
+  ring_all = led_all post (λ d. get_or t d 0) (λ n d. ring t n d) (ring_zero t) (ring_on t) known n d

@@ -1,29 +1,23 @@
 -- Writing one thing behind another.
 --   Cut w x more                  w is x and then `more`
---   Putting w at old o r rest     of w, which is written from index `at` on, all but `rest` stands in the buffer o, up to index r
--- put_none, put_one, put_then: nothing written; one byte; two things written one behind the other. put_size: the buffer is as long as before. put_as: the same thing, written otherwise.
+--   Writing w o n rest            of w, which is written from the buffer o on, all but `rest` stands in the buffer n
+-- wrote_none, wrote_then: nothing written; two things written one behind the other. put_size, wrote_size: the buffer is as long as before. put_as, wrote_as: the same thing, written otherwise.
 -- begin, begin_as, step, last, finish: the beginning of such writing, one part more, the last part, and the end where nothing is left. room: there is room for the part that comes next. size: the buffer is as long as before.
 -- Assumes nothing.
 use mathlib.Core.Path.{◌≡◌, refl, sym, ap, ◌∙◌, subst}
-use mathlib.Core.List.{List, [], ◌∷◌, ◌++◌, append_assoc, append-nil}
-use Prim.Native.Nat.{ℕ, ◌+◌, ◌<◌, ◌≤◌}
+use mathlib.Core.List.{List, [], ◌++◌, append_assoc, append-nil}
+use Prim.Native.Nat.{ℕ, ◌+◌, ◌≤◌}
 use native.Mathlib.Nat.{add-zero}
-use native.Mathlib.Numerals.{add-one}
 use native.Mathlib.Omega.{arith}
-use lib.ListN.{length, take, drop, set, length-append, length-drop, take-append-drop}
-use lib.Seq.{length-take-le, take_at, drop_at, drop-drop, set_split, append_snoc}
-use Rattle.print.specs.Puts.{Put}
+use lib.ListN.{length, take, drop, length-append, length-drop, take-append-drop}
+use lib.Seq.{length-take-le, take_at, drop_at, drop-drop}
+use Rattle.print.specs.declared.Out.{Out}
+use Rattle.print.specs.Puts.{Put, Room, Wrote}
 
-pub put_none : (at : ℕ) (o : List ℕ) → Put [] at o o at
+put_none : (at : ℕ) (o : List ℕ) → Put [] at o o at
 put_none at o = record {
   stop = omega arith;
   held = sym (take-append-drop at o) ∙ ap (λ (k : ℕ). take at o ++ drop k o) (sym (add-zero at)) ∙ ap (λ (m : List ℕ). m ++ drop (at + 0) o) (sym (append-nil (take at o)));
-}
-
-pub put_one : (at x : ℕ) (o : List ℕ) → at < length o → Put (x ∷ []) at o (set o at x) (at + 1)
-put_one at x o h = record {
-  stop = refl;
-  held = set_split o at x h ∙ ap (λ (k : ℕ). take at o ++ x ∷ drop k o) (sym (add-one at)) ∙ sym (append_snoc (take at o) x (drop (at + 1) o));
 }
 
 module _ {l : List ℕ} {at : ℕ} {a b : List ℕ} {r : ℕ} (lent : at + length l ≤ length a) (p : Put l at a b r) where
@@ -33,7 +27,7 @@ module _ {l : List ℕ} {at : ℕ} {a b : List ℕ} {r : ℕ} (lent : at + lengt
   pub put_size : length b ≡ length a
   put_size = ap length p.held ∙ length-append (take at a ++ l) (drop (at + length l) a) ∙ omega (arith, front, length-drop (at + length l) a)
 
-  pub put_then : {m c : List ℕ} {r' : ℕ} → Put m r b c r' → Put (l ++ m) at a c r'
+  put_then : {m c : List ℕ} {r' : ℕ} → Put m r b c r' → Put (l ++ m) at a c r'
   put_then {m} {c} {r'} q = record {
     stop = q.stop ∙ omega (arith, p.stop, length-append l m);
     held =
@@ -57,6 +51,22 @@ module _ {l : List ℕ} {at : ℕ} {a b : List ℕ} {r : ℕ} (lent : at + lengt
 pub put_as : {l m : List ℕ} {at : ℕ} {a b : List ℕ} {r : ℕ} → l ≡ m → Put l at a b r → Put m at a b r
 put_as {at = at} {a = a} {b = b} {r = r} e p = subst (λ (k : List ℕ). Put k at a b r) e p
 
+-- ---- the buffer, and how much of it is written
+
+pub wrote_none : (o : Out) → Wrote [] o o
+wrote_none o = record { put = put_none o.at o.bytes.now; kept = refl }
+
+-- the same thing, written otherwise
+pub wrote_as : {l m : List ℕ} {o n : Out} → l ≡ m → Wrote l o n → Wrote m o n
+wrote_as e p = record { put = put_as e p.put; kept = p.kept }
+
+module _ {l : List ℕ} {o n : Out} (lent : Room l o) (p : Wrote l o n) where
+  pub wrote_size : length n.bytes.now ≡ length o.bytes.now
+  wrote_size = put_size lent p.put
+
+  pub wrote_then : {m : List ℕ} {n' : Out} → Wrote m n n' → Wrote (l ++ m) o n'
+  wrote_then q = record { put = put_then lent p.put q.put; kept = q.kept ∙ p.kept }
+
 -- ---- a thing of many parts
 
 pub record Cut (w x more : List ℕ) : Type 0 where
@@ -65,37 +75,37 @@ pub record Cut (w x more : List ℕ) : Type 0 where
 pub whole : (w : List ℕ) → Cut w w []
 whole w = record { is = sym (append-nil w) }
 
-pub record Putting (w : List ℕ) (at : ℕ) (old o : List ℕ) (r : ℕ) (rest : List ℕ) : Type 0 where
+pub record Writing (w : List ℕ) (o n : Out) (rest : List ℕ) : Type 0 where
   pub done : List ℕ
   pub parts : w ≡ done ++ rest
-  pub put : Put done at old o r
+  pub wrote : Wrote done o n
 
-pub begin : (w : List ℕ) (at : ℕ) (o : List ℕ) → Putting w at o o at w
-begin w at o = record { done = []; parts = refl; put = put_none at o }
+pub begin : (w : List ℕ) (o : Out) → Writing w o o w
+begin w o = record { done = []; parts = refl; wrote = wrote_none o }
 
-pub begin_as : (w rest : List ℕ) (at : ℕ) (o : List ℕ) → w ≡ rest → Putting w at o o at rest
-begin_as w rest at o e = record { done = []; parts = e; put = put_none at o }
+pub begin_as : (w rest : List ℕ) (o : Out) → w ≡ rest → Writing w o o rest
+begin_as w rest o e = record { done = []; parts = e; wrote = wrote_none o }
 
-module _ {w : List ℕ} {at : ℕ} {old o : List ℕ} {r : ℕ} {rest : List ℕ} (lent : at + length w ≤ length old) (p : Putting w at old o r rest) where
-  fits : at + length p.done ≤ length old
-  fits = omega (arith, ap length p.parts, length-append p.done rest)
+module _ {w : List ℕ} {o n : Out} {rest : List ℕ} (lent : Room w o) (p : Writing w o n rest) where
+  fits : Room p.done o
+  fits = omega (arith, lent, ap length p.parts, length-append p.done rest)
 
-  pub size : length o ≡ length old
-  size = put_size fits p.put
+  pub size : length n.bytes.now ≡ length o.bytes.now
+  size = wrote_size fits p.wrote
 
-  pub room : {x more : List ℕ} → Cut rest x more → r + length x ≤ length o
-  room {x} {more} e = omega (arith, size, p.put.stop, ap length p.parts, length-append p.done rest, ap length e.is, length-append x more)
+  pub room : {x more : List ℕ} → Cut rest x more → Room x n
+  room {x} {more} e = omega (arith, lent, size, p.wrote.put.stop, ap length p.parts, length-append p.done rest, ap length e.is, length-append x more)
 
-  pub step : {x more o' : List ℕ} {r' : ℕ} → Cut rest x more → Put x r o o' r' → Putting w at old o' r' more
+  pub step : {x more : List ℕ} {n' : Out} → Cut rest x more → Wrote x n n' → Writing w o n' more
   step {x} {more} e q = record {
     done = p.done ++ x;
     parts = p.parts ∙ ap (λ (m : List ℕ). p.done ++ m) e.is ∙ sym (append_assoc p.done x more);
-    put = put_then fits p.put q;
+    wrote = wrote_then fits p.wrote q;
   }
 
-  pub finish : rest ≡ [] → Put w at old o r
-  finish e = put_as (sym (p.parts ∙ ap (λ (m : List ℕ). p.done ++ m) e ∙ append-nil p.done)) p.put
+  pub finish : rest ≡ [] → Wrote w o n
+  finish e = wrote_as (sym (p.parts ∙ ap (λ (m : List ℕ). p.done ++ m) e ∙ append-nil p.done)) p.wrote
 
   -- the last part
-  pub last : {o' : List ℕ} {r' : ℕ} → Put rest r o o' r' → Put w at old o' r'
-  last q = put_as (sym p.parts) (put_then fits p.put q)
+  pub last : {n' : Out} → Wrote rest n n' → Wrote w o n'
+  last q = wrote_as (sym p.parts) (wrote_then fits p.wrote q)

@@ -70,11 +70,10 @@ module _ (ends : List ℕ) (v : ℕ) (first more : List ℕ) (d : ℕ) (g : Chai
         (is_cases e d);
   }
 
--- the same, as the code says it: q is the port that d - 1 leaves, and e is d - 1
-pub step_as : (ends : List ℕ) (v : ℕ) (first more : List ℕ) (d q e : ℕ) → Chained ends v first more d → 0 < d → leaves ends (d - 1) < v → q ≡ leaves ends (d - 1) → e ≡ d - 1
-    → Chained ends v (set first q e) (set more (d - 1) (get_or first q 0)) (d - 1)
-step_as ends v first more d q e g h inside a b =
-    rw (a, b) (step ends v first more (d - 1) (subst (Chained ends v first more) one g) inside)
+-- the same for the dart before d
+pub step_before : (ends : List ℕ) (v : ℕ) (first more : List ℕ) (d : ℕ) → Chained ends v first more d → 0 < d → leaves ends (d - 1) < v
+    → Chained ends v (set first (leaves ends (d - 1)) (d - 1)) (set more (d - 1) (get_or first (leaves ends (d - 1)) 0)) (d - 1)
+step_before ends v first more d g h inside = step ends v first more (d - 1) (subst (Chained ends v first more) one g) inside
   where
     one : d ≡ suc (d - 1)
     one = omega arith

@@ -13,8 +13,8 @@ use native.Mathlib.Nat.{not-suc-le-zero, zero-add}
 use native.Mathlib.Decide.{dec_lt}
 use native.Mathlib.Omega.{arith}
 use lib.Dec.{T, eqb, eqb→eq, T_not, not_T}
-use lib.ListN.{length, get_or, set, take, drop, length-append, length-set, get_or-eq_default, get_or-append}
-use lib.Seq.{ext_get_or, get_or-take, length-take-le, take-suc-set, drop-set-lt, set-set, set-get_or}
+use lib.ListN.{length, get_or, set, take, length-append, length-set, get_or-eq_default, get_or-append}
+use lib.Seq.{ext_get_or, get_or-take, length-take-le, take-suc-set, drop-set-lt}
 use Rattle.rules.specs.Lists.{from, at}
 use Rattle.rules.specs.Terms.{leaves, reverse, enters, darts_at}
 use Rattle.rules.specs.Ways.{reached, in_play}
@@ -198,24 +198,19 @@ room_port marks queue n i r h =
     let k : 1 ≤ count (get_or (take n queue) i 0) (take n queue) = place_count (take n queue) i (omega (arith, length-take-le n queue r.most)) in
     subst (λ (z : ℕ). z < length marks) (get_or-take n queue i 0 h) (at_lt marks (get_or (take n queue) i 0) (T_flag (at marks (get_or (take n queue) i 0)) (omega (arith, r.fair (get_or (take n queue) i 0)))))
 
--- the marks of the beginning, read off those where the loop begins
-pub unset : (M : List Bool) (p : ℕ) → at M p ≡ false → set (set M p true) p false ≡ M
-unfolding at
-unset M p e = set-set M p true false ∙ ap (set M p) (sym e) ∙ set-get_or M p false
-
-pub start : (ends : List ℕ) (play M : List Bool) (queue : List ℕ) (p x : ℕ) → p < length M → at M p ≡ false → length queue ≡ length M → length M ≤ 65536 → x ≡ p
-    → Flow ends play (set (set M p true) p false) p (set queue 0 x) 1 (set M p true) (set queue 0 x) 1 0
+pub start : (ends : List ℕ) (play M : List Bool) (queue : List ℕ) (p : ℕ) → p < length M → at M p ≡ false → length queue ≡ length M → length M ≤ 65536
+    → Flow ends play M p queue 1 (set M p true) (set queue 0 p) 1 0
 unfolding count
-start ends play M queue p x b e l k q = rw (unset M p e, q) (record {
+start ends play M queue p b e l k = record {
   flood = subst (λ (t : Met). Flood ends play M p t 0) (sym one) (flood_start ends play M p b e);
-  held = record { state = refl; least = omega arith; most = long; rest = refl; size = refl };
+  held = record { state = refl; least = omega arith; most = long; rest = drop-set-lt 1 queue 0 p (omega arith); size = length-set queue 0 p };
   room = record {
     places = omega (arith, length-set queue 0 p, length-set M p true);
     small = omega (arith, length-set M p true);
     most = long;
     fair = λ z. omega (arith, flag_set M p z b (rw e tt), ap (λ (t : Met). count z t.queue) one);
   };
-})
+}
   where
     long : 1 ≤ length (set queue 0 p)
     long = omega (arith, length-set queue 0 p)
@@ -228,23 +223,23 @@ module _ (ends : List ℕ) (play M : List Bool) (p : ℕ) (q₀ : List ℕ) (n�
   length_met : length (take n queue) ≡ n
   length_met = length-take-le n queue f.room.most
 
-  pub step : h < n → (x : ℕ) → x ≡ get_or queue h 0 → (marks' : List Bool) (queue' : List ℕ) (n' : ℕ) → Held (meet_all ends play (darts_at ends x) (met_in marks queue n)) queue n marks' queue' n'
+  pub step : h < n → (marks' : List Bool) (queue' : List ℕ) (n' : ℕ) → Held (meet_all ends play (darts_at ends (get_or queue h 0)) (met_in marks queue n)) queue n marks' queue' n'
       → Flow ends play M p q₀ n₀ marks' queue' n' (h + 1)
-  step b x e marks' queue' n' k = record {
+  step b marks' queue' n' k = record {
     flood = subst (λ (t : Met). Flood ends play M p t (h + 1)) (ap (λ (y : ℕ). meet_all ends play (darts_at ends y) (met_in marks queue n)) at_head ∙ sym k.state) (flood_step ends play M p sized inside (met_in marks queue n) h f.flood (omega (arith, length_met)));
     held = held_trans (met_in marks queue n) (met_in marks' queue' n') q₀ n₀ marks queue n marks' queue' n' f.held (record { state = refl; least = k.least; most = k.most; rest = k.rest; size = k.size });
-    room = room_on (meet_all ends play (darts_at ends x) (met_in marks queue n)) marks queue n marks' queue' n' f.room
-        (meet_all_gains ends play (length M) (enters_all (length M) ends play sized (omega arith)) (darts_at ends x) (met_in marks queue n) f.flood.long) k;
+    room = room_on (meet_all ends play (darts_at ends (get_or queue h 0)) (met_in marks queue n)) marks queue n marks' queue' n' f.room
+        (meet_all_gains ends play (length M) (enters_all (length M) ends play sized (omega arith)) (darts_at ends (get_or queue h 0)) (met_in marks queue n) f.flood.long) k;
   }
     where
-      at_head : get_or (take n queue) h 0 ≡ x
-      at_head = get_or-take n queue h 0 b ∙ sym e
+      at_head : get_or (take n queue) h 0 ≡ get_or queue h 0
+      at_head = get_or-take n queue h 0 b
 
-  pub end : n ≤ h → (queue₀ : List ℕ) (y : ℕ) → q₀ ≡ set queue₀ 0 y → 1 ≤ n₀ → Flooded ends play M queue₀ p marks queue n
-  end b queue₀ y e k = record {
+  pub end : n ≤ h → Flooded ends play M q₀ p marks queue n
+  end b = record {
     marked = flood_marked ends play M p sized inside (met_in marks queue n) h f.flood (omega (arith, length_met));
     listed = flood_listed ends play M p sized inside (met_in marks queue n) h f.flood (omega (arith, length_met));
     most = f.room.most;
-    rest = f.held.rest ∙ ap (drop n) e ∙ drop-set-lt n queue₀ 0 y (omega (arith, f.held.least));
-    size = f.held.size ∙ ap length e ∙ length-set queue₀ 0 y;
+    rest = f.held.rest;
+    size = f.held.size;
   }

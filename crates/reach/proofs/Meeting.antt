@@ -157,15 +157,6 @@ module _ (ends : List ℕ) (play : List Bool) where
 
 -- ---- how the code holds it
 
--- a test that the code turned round
-pub off : (b : Bool) → not b ≡ true → b ≡ false
-off true e = sym e
-off false e = refl
-
-pub on : (b : Bool) → not b ≡ false → b ≡ true
-on true e = refl
-on false e = sym e
-
 pub held_same : (marks : List Bool) (queue : List ℕ) (n : ℕ) (s : Met) → n ≤ length queue → s ≡ met_in marks queue n → Held s queue n marks queue n
 held_same marks queue n s h e = record { state = sym e; least = omega arith; most = h; rest = refl; size = refl }
 

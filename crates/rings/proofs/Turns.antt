@@ -1,49 +1,29 @@
--- Tests 12 to 14 of one dart and of one port, and the three in their order (rules, "Refusals", `turn_tests`).
--- wild_.., away_..: what the code finds of a dart's turn is what the tests say of it. range_of, ports_of: what is left where a search finds no dart.
+-- Tests 12 to 14 in their order (rules, "Refusals", `turn_tests`).
+-- found_no: where a search finds nothing, nothing passes. range_of, ports_of: what is left where a search finds no dart.
 -- turn_12, turn_13, turn_14, turn_passed: what the tests give, by those that were passed.
 -- Assumes nothing.
-use mathlib.Core.Path.{◌≡◌, sym, ap}
-use mathlib.Core.Bool.{Bool, true, false, not}
+use mathlib.Core.Path.{◌≡◌, sym, ◌∙◌}
+use mathlib.Core.Bool.{Bool, not}
 use mathlib.Core.List.{List}
-use Prim.Native.Nat.{ℕ, ◌≤◌, ◌<◌}
+use Prim.Native.Nat.{ℕ, ◌<◌}
 use native.Mathlib.Omega.{arith}
 use lib.Dec.{T, eqb, eqb→eq, nleb→lt}
 use lib.ListN.{length, get_or}
-use borrow.Author.Tests.{le-leb, lt-leb, eq-eqb, ne_eqb}
-use Rattle.rules.specs.Lists.{seek}
-use Rattle.rules.specs.Terms.{leaves, darts_at}
-use Rattle.rules.specs.Refusals.{refused, passed, itself, wild_turn, away_turn, one_ring, broken_ring, turn_tests}
+use Rattle.std.specs.Prelude.{Option, Some, None}
+use Rattle.std.specs.List.{find}
+use Rattle.rules.specs.Lists.{from}
+use Rattle.rules.specs.Terms.{leaves}
+use Rattle.rules.specs.Refusals.{refused, passed, itself, wild_turn, away_turn, broken_ring, turn_tests}
 use Rattle.laws.proofs.Tests.{not_not}
 use Rattle.laws.proofs.Lists.{seek_none}
-use Rattle.plate.proofs.Stages.{refuse_at_yes_lem, refuse_at_no_lem}
+use Rattle.laws.proofs.Finding.{seek_none as seek_of_none}
+use Rattle.plate.proofs.Stages.{refuse_at_some, refuse_at_none}
 use Rattle.rings.specs.Turns.{InRange, AtPorts}
 
--- ---- one dart
-
-module _ (ends t : List ℕ) (d x : ℕ) (e : x ≡ get_or t d 0) where
-  pub wild_yes : length ends ≤ x → wild_turn ends t d ≡ true
-  unfolding wild_turn
-  wild_yes h = rw (← e, le-leb (length ends) x h)
-
-  pub wild_no : x < length ends → wild_turn ends t d ≡ false
-  unfolding wild_turn
-  wild_no h = rw (← e, lt-leb (length ends) x h)
-
-  pub away_yes : (get_or ends x 0 ≡ get_or ends d 0 → ⊥) → away_turn ends t d ≡ true
-  unfolding away_turn leaves
-  away_yes h = rw (← e, ne_eqb (get_or ends x 0) (get_or ends d 0) h)
-
-  pub away_no : get_or ends x 0 ≡ get_or ends d 0 → away_turn ends t d ≡ false
-  unfolding away_turn leaves
-  away_no h = rw (← e, eq-eqb (get_or ends x 0) (get_or ends d 0) h)
-
--- ---- one port
-
-pub broken_is : (ends t : List ℕ) (p : ℕ) (r : Bool) → r ≡ one_ring t (darts_at ends p) → broken_ring ends t p ≡ not r
-unfolding broken_ring
-broken_is ends t p r e = ap not (sym e)
-
 -- ---- what is left where a search finds no dart
+
+found_no : (f : ℕ → Bool) (n : ℕ) → find f (from 0 n) ≡ None → (k : ℕ) → k < n → T (not (f k))
+found_no f n e k h = seek_none f 0 n (omega (arith, seek_of_none f n e)) k (omega arith) (omega arith)
 
 module _ (ends t : List ℕ) where
   range_by : length t ≡ length ends → ((d : ℕ) → d < length ends → T (not (wild_turn ends t d))) → InRange ends t
@@ -57,31 +37,31 @@ module _ (ends t : List ℕ) where
     port = λ d b. eqb→eq (leaves ends (get_or t d 0)) (leaves ends d) (not_not (eqb (leaves ends (get_or t d 0)) (leaves ends d)) (h d b));
   }
 
-  pub range_of : length t ≡ length ends → (w : ℕ) → w ≡ seek (wild_turn ends t) 0 (length ends) → length ends ≤ w → InRange ends t
-  range_of e w q h = range_by e (λ d b. seek_none (wild_turn ends t) 0 (length ends) (omega arith) d (omega arith) (omega arith))
+  pub range_of : length t ≡ length ends → (w : Option ℕ) → w ≡ find (wild_turn ends t) (from 0 (length ends)) → w ≡ None → InRange ends t
+  range_of e w q h = range_by e (λ d b. found_no (wild_turn ends t) (length ends) (sym q ∙ h) d b)
 
-  pub ports_of : InRange ends t → (w : ℕ) → w ≡ seek (away_turn ends t) 0 (length ends) → length ends ≤ w → AtPorts ends t
-  ports_of g w q h = ports_by g (λ d b. seek_none (away_turn ends t) 0 (length ends) (omega arith) d (omega arith) (omega arith))
+  pub ports_of : InRange ends t → (w : Option ℕ) → w ≡ find (away_turn ends t) (from 0 (length ends)) → w ≡ None → AtPorts ends t
+  ports_of g w q h = ports_by g (λ d b. found_no (away_turn ends t) (length ends) (sym q ∙ h) d b)
 
 -- ---- the three tests
 
-module _ (v : ℕ) (ends t : List ℕ) (w : ℕ) (p : w ≡ seek (wild_turn ends t) 0 (length ends)) where
-  pub turn_12 : w < length ends → turn_tests v ends t ≡ refused 12 w
+module _ (v : ℕ) (ends t : List ℕ) (w : Option ℕ) (p : w ≡ find (wild_turn ends t) (from 0 (length ends))) where
+  pub turn_12 : (k : ℕ) → w ≡ Some k → turn_tests v ends t ≡ refused 12 k
   unfolding turn_tests
-  turn_12 h = rw (refuse_at_yes_lem 12 itself (wild_turn ends t) (length ends) w p h)
+  turn_12 k h = rw (refuse_at_some 12 itself (wild_turn ends t) (length ends) k (sym p ∙ h))
 
-  module _ (g : length ends ≤ w) (a : ℕ) (q : a ≡ seek (away_turn ends t) 0 (length ends)) where
-    pub turn_13 : a < length ends → turn_tests v ends t ≡ refused 13 a
+  module _ (g : w ≡ None) (a : Option ℕ) (q : a ≡ find (away_turn ends t) (from 0 (length ends))) where
+    pub turn_13 : (k : ℕ) → a ≡ Some k → turn_tests v ends t ≡ refused 13 k
     unfolding turn_tests
-    turn_13 h = rw (refuse_at_no_lem 12 itself (wild_turn ends t) (length ends) w p g, refuse_at_yes_lem 13 itself (away_turn ends t) (length ends) a q h)
+    turn_13 k h = rw (refuse_at_none 12 itself (wild_turn ends t) (length ends) (sym p ∙ g), refuse_at_some 13 itself (away_turn ends t) (length ends) k (sym q ∙ h))
 
-    module _ (i : length ends ≤ a) (b : ℕ) (r : b ≡ seek (broken_ring ends t) 0 v) where
-      pub turn_14 : b < v → turn_tests v ends t ≡ refused 14 b
+    module _ (i : a ≡ None) (b : Option ℕ) (r : b ≡ find (broken_ring ends t) (from 0 v)) where
+      pub turn_14 : (k : ℕ) → b ≡ Some k → turn_tests v ends t ≡ refused 14 k
       unfolding turn_tests
-      turn_14 h =
-          rw (refuse_at_no_lem 12 itself (wild_turn ends t) (length ends) w p g, refuse_at_no_lem 13 itself (away_turn ends t) (length ends) a q i, refuse_at_yes_lem 14 itself (broken_ring ends t) v b r h)
+      turn_14 k h =
+          rw (refuse_at_none 12 itself (wild_turn ends t) (length ends) (sym p ∙ g), refuse_at_none 13 itself (away_turn ends t) (length ends) (sym q ∙ i), refuse_at_some 14 itself (broken_ring ends t) v k (sym r ∙ h))
 
-      pub turn_passed : v ≤ b → turn_tests v ends t ≡ passed
+      pub turn_passed : b ≡ None → turn_tests v ends t ≡ passed
       unfolding turn_tests
       turn_passed h =
-          rw (refuse_at_no_lem 12 itself (wild_turn ends t) (length ends) w p g, refuse_at_no_lem 13 itself (away_turn ends t) (length ends) a q i, refuse_at_no_lem 14 itself (broken_ring ends t) v b r h)
+          rw (refuse_at_none 12 itself (wild_turn ends t) (length ends) (sym p ∙ g), refuse_at_none 13 itself (away_turn ends t) (length ends) (sym q ∙ i), refuse_at_none 14 itself (broken_ring ends t) v (sym r ∙ h))

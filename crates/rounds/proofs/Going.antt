@@ -4,35 +4,35 @@
 use mathlib.Core.Path.{◌≡◌, refl, sym, ap, ◌∙◌, subst}
 use mathlib.Core.Logic.{◌≢◌}
 use mathlib.Core.Bool.{Bool}
-use mathlib.Core.List.{List, ◌++◌}
-use Prim.Native.Nat.{ℕ, zero, suc, ◌+◌, ◌-◌, ◌*◌, ◌<◌, ◌≤◌}
+use mathlib.Core.List.{List}
+use Prim.Native.Nat.{ℕ, zero, suc, ◌+◌, ◌-◌, ◌<◌, ◌≤◌}
 use native.Mathlib.Omega.{arith}
 use lib.Dec.{eqb, eqb→eq}
-use lib.ListN.{length, get_or, take, drop, replicate}
+use lib.ListN.{length, get_or}
+use Rattle.std.specs.declared.ops.ControlFlow.{ControlFlow}
+use Rattle.std.specs.declared.ops.ControlFlow.TheVariants.{Continue, Break}
 use Rattle.rules.specs.Laying.{State, Choice, Verdict, flat, stuck, ready, FLAT, STUCK, PARTIAL, Outcome, choices, lay, judge, rounds, first_channel, start, first_cycle, laying}
 use Rattle.laws.proofs.Tests.{cond_cases, neqb_ne}
 use Rattle.laws.proofs.Choices.{Open, Sensible, Ready as Go, choices_sensible, judge_ready}
 use Rattle.laws.proofs.Rounds.{Kept}
-use Rattle.numbers.proofs.Filling.{fill_whole}
-use Rattle.reach.specs.Neighbours.{first_darts, more_darts}
 use Rattle.reach.specs.Floods.{Tables}
-use Rattle.land.specs.Walks.{lands, Walkable}
-use Rattle.split.proofs.Laws.{Holds, holds_lands, holds_long, holds_walkable}
+use Rattle.land.specs.Walks.{lands}
+use Rattle.split.specs.declared.Laying.{Laying}
+use Rattle.split.specs.Kept.{Kept as LayingKept}
+use Rattle.split.proofs.Laws.{Holds, holds_lands}
 use Rattle.fragment.specs.declared.Verdict.{Verdict as Said}
 use Rattle.fragment.specs.declared.Verdict.TheVariants.{Flat as SaidFlat, Stuck as SaidStuck, Ready as SaidReady}
 use Rattle.fragment.specs.declared.Choice.{Choice as Named}
-use Rattle.fragment.specs.Fragments.{Wired, Lent}
+use Rattle.fragment.specs.declared.Desk.{Desk}
+use Rattle.fragment.specs.Desks.{Kept as DeskKept}
 use Rattle.fragment.specs.Rounds.{state_of, verdict_of, laid_by}
 use Rattle.fragment.specs.Bars.{Bars}
-use Rattle.fragment.proofs.Barring.{bars_none}
 use Rattle.step.specs.Stories.{story_of}
-use Rattle.step.specs.Rooms.{Desk, Standing, Chosen, Plan}
+use Rattle.step.specs.Rooms.{Standing, Chosen, Plan}
+use Rattle.step.proofs.Keeping.{desk_then, roomy_then}
 use Rattle.step.proofs.Telling.{lands_few, place_most, count_paths}
-use Rattle.step.proofs.Crossing.{wired_of, lent_of}
 use Rattle.rounds.specs.declared.Word.{Word}
 use Rattle.rounds.specs.declared.Word.TheVariants.{Flat, Stuck, Partial}
-use Rattle.rounds.specs.declared.Next.{Next}
-use Rattle.rounds.specs.declared.Next.TheVariants.{Ends, Lays}
 use Rattle.rounds.specs.Words.{said_by_round, said_by_cap, first_said, after_round, word_in, name_in, said_of}
 use Rattle.rounds.specs.Rooms.{Under, Round, Left}
 
@@ -78,24 +78,24 @@ rounds_stuck v ends play (suc m) s k h = ap (λ (j : Verdict). elim j as (λ w. 
 -- ---- what follows a round
 
 -- what the round says, then what n says, the first of the two
-pub in_order_lem : (said : Said) (p n : ℕ) (x y r : Next) → x ≡ said_by_round said → y ≡ said_by_cap p n x → r ≡ first_said x y → r ≡ after_round said p n
-in_order_lem said p n x y r e f g = g ∙ ap (first_said x) f ∙ ap (λ (z : Next). first_said z (said_by_cap p n z)) e
+pub in_order_lem : (said : Said) (p n : ℕ) (x y r : ControlFlow Word Named) → x ≡ said_by_round said → y ≡ said_by_cap p n x → r ≡ first_said x y → r ≡ after_round said p n
+in_order_lem said p n x y r e f g = g ∙ ap (first_said x) f ∙ ap (λ (z : ControlFlow Word Named). first_said z (said_by_cap p n z)) e
 
 -- the end of the laying is no path
-ends_lays : (w : Word) (c : Named) → Ends w ≡ Lays c → ⊥
+ends_lays : (w : Word) (c : Named) → ◌≡◌ {A = ControlFlow Word Named} (Break w) (Continue c) → ⊥
 ends_lays w c h = let z : ◌≡◌ {A = ℕ} 0 1 = cc in absurd (omega arith)
 
 -- where it ends, the word of a round to go on is PARTIAL, and n paths are laid
-ends_ready : (c : Named) (p n : ℕ) (w : Word) → Ends w ≡ after_round (SaidReady c) p n → (w ≡ Partial) × (p ≡ n)
+ends_ready : (c : Named) (p n : ℕ) (w : Word) → Break w ≡ after_round (SaidReady c) p n → (w ≡ Partial) × (p ≡ n)
 ends_ready c p n w =
-    cond_cases (λ (x : Next). Ends w ≡ x → (w ≡ Partial) × (p ≡ n)) (eqb p n) (λ t h. (cc, eqb→eq p n t)) (λ t h. absurd (ends_lays w c h))
+    cond_cases (λ (x : ControlFlow Word Named). Break w ≡ x → (w ≡ Partial) × (p ≡ n)) (eqb p n) (λ t h. (cc, eqb→eq p n t)) (λ t h. absurd (ends_lays w c h))
 
 -- where a path is laid, the round says so, and fewer than n are laid
-pub lays_ready : (said : Said) (c : Named) (p n : ℕ) → Lays c ≡ after_round said p n → (said ≡ SaidReady c) × (p ≢ n)
+pub lays_ready : (said : Said) (c : Named) (p n : ℕ) → Continue c ≡ after_round said p n → (said ≡ SaidReady c) × (p ≢ n)
 lays_ready SaidFlat c p n h = absurd (ends_lays Flat c (sym h))
 lays_ready (SaidStuck k) c p n h = absurd (ends_lays (Stuck k) c (sym h))
 lays_ready (SaidReady d) c p n h =
-    cond_cases (λ (x : Next). Lays c ≡ x → (SaidReady d ≡ SaidReady c) × (p ≢ n)) (eqb p n) (λ t e. absurd (ends_lays Partial c (sym e))) (λ t e. (cc, neqb_ne p n t)) h
+    cond_cases (λ (x : ControlFlow Word Named). Continue c ≡ x → (SaidReady d ≡ SaidReady c) × (p ≢ n)) (eqb p n) (λ t e. absurd (ends_lays Partial c (sym e))) (λ t e. (cc, neqb_ne p n t)) h
 
 module _ (v : ℕ) (ends : List ℕ) (play : List Bool) (n : ℕ) (L : Plan v ends play) (t fs ns st : List ℕ) (count place : ℕ) (U : Under v ends play n t fs ns st count place) where
   abbrev s : State
@@ -121,10 +121,10 @@ module _ (v : ℕ) (ends : List ℕ) (play : List Bool) (n : ℕ) (L : Plan v en
       }
 
   -- what is left, where the end with the word w follows the round
-  pub ended : (first more : List ℕ) → Tables v ends first more → (said : Said) → said ≡ verdict_of (judge v ends play (state_of t (lands t fs ns count))) → (w : Word) → Ends w ≡ after_round said (count - 2) n → Left v ends play n first more t fs ns st (record { word = w; paths = count - 2; lands = count; story = place })
+  pub ended : (first more : List ℕ) → Tables v ends first more → (said : Said) → said ≡ verdict_of (judge v ends play (state_of t (lands t fs ns count))) → (w : Word) → Break w ≡ after_round said (count - 2) n → Left v ends play n first more t fs ns st (record { word = w; paths = count - 2; lands = count; story = place })
   ended first more B said h w e = go (judge v ends play s) refl (e ∙ ap (λ (d : Said). after_round d (count - 2) n) (verdict said h))
     where
-      go : (j : Verdict) → judge v ends play s ≡ j → Ends w ≡ after_round (verdict_of j) (count - 2) n → Left v ends play n first more t fs ns st (record { word = w; paths = count - 2; lands = count; story = place })
+      go : (j : Verdict) → judge v ends play s ≡ j → Break w ≡ after_round (verdict_of j) (count - 2) n → Left v ends play n first more t fs ns st (record { word = w; paths = count - 2; lands = count; story = place })
       go flat e f = let q : w ≡ Flat = cc in left_so first more B w (rounds_flat v ends play left s e ∙ ap (λ (x : Word). record { word = word_in x; name = name_in x; state = s }) (sym q))
       go (stuck k) e f = let q : w ≡ Stuck k = cc in left_so first more B w (rounds_stuck v ends play left s k e ∙ ap (λ (x : Word). record { word = word_in x; name = name_in x; state = s }) (sym q))
       go (ready a) e f =
@@ -170,81 +170,42 @@ count_few v ends play n L t fs ns st count place U = (
   omega (arith, U.stands.holds.count, lands_few v ends play L.layable U.state U.stands.kept),
 )
 
-module _ (v : ℕ) (ends : List ℕ) (play : List Bool) (n : ℕ) (L : Plan v ends play) (first more : List ℕ) (B : Tables v ends first more) (t₀ fs₀ ns₀ st₀ t fs ns : List ℕ)
-    (laid marks : List Bool) (queue : List ℕ) (touched : List Bool) (contacts : List ℕ) (inside own : List Bool) (st : List ℕ) (count place : ℕ) (bars : List ℕ)
-    (R : Round v ends play n t₀ fs₀ ns₀ st₀ t fs ns laid marks queue touched contacts inside own st count place bars) where
-  abbrev D : Desk v (length play) laid marks queue touched contacts inside own
-  D = R.desk
+-- what keeps twice keeps
+laying_then : (l m k : Laying) → LayingKept l m → LayingKept m k → LayingKept l k
+laying_then l m k a b = (b.0 ∙ a.0, b.1 ∙ a.1, b.2 ∙ a.2, b.3 ∙ a.3, b.4 ∙ a.4, b.5 ∙ a.5)
 
-  pub ask_judge : Wired (length laid) ends play first more × (Walkable t fs ns count × ((length t ≡ length ends) × (Lent (length laid) marks queue touched contacts × ((count < 65536) × Bars (length laid) ends play t (lands t fs ns count) bars))))
-  ask_judge = (
-    subst (λ (m : ℕ). Wired m ends play first more) (sym D.of_laid) (wired_of v ends play first more L B),
-    (
-      holds_walkable ends play R.under.state R.under.stands.kept t fs ns count R.under.stands.holds v L.layable,
-      (
-        holds_long ends play R.under.state R.under.stands.kept t fs ns count R.under.stands.holds,
-        (
-          subst (λ (m : ℕ). Lent m marks queue touched contacts) (sym D.of_laid) (lent_of v (length play) laid marks queue touched contacts inside own L.small D),
-          (
-            omega (arith, (count_few v ends play n L t fs ns st count place R.under).1, L.layable.size2, L.layable.few),
-            subst (λ (m : ℕ). Bars m ends play t (lands t fs ns count) bars) (sym D.of_laid) R.bars,
-          ),
-        ),
-      ),
-    ),
-  )
+module _ (v : ℕ) (ends : List ℕ) (play : List Bool) (n : ℕ) (L : Plan v ends play) (l₀ l : Laying) (laid : List Bool) (d₀ d : Desk) (st₀ st : List ℕ) (place : ℕ) (bars : List ℕ)
+    (R : Round v ends play n l₀ l laid d₀ d st₀ st place bars)
+    (c : Named) (h : SaidReady c ≡ verdict_of (judge v ends play (state_of l.turns.now (lands l.turns.now l.firsts.now l.lens.now l.count)))) (laid' : List Bool) (lp : laid' ≡ laid_by v ends l.turns.now) where
+  abbrev a₀ : Choice
+  a₀ = (found v ends play n L l.turns.now l.firsts.now l.lens.now st l.count place R.under c h).0
 
-  -- what the verdict says, at the number of ports
-  pub said_so : (said : Said) → said ≡ verdict_of (judge (length laid) ends play (state_of t (lands t fs ns count))) → said ≡ verdict_of (judge v ends play (state_of t (lands t fs ns count)))
-  said_so said h = h ∙ ap (λ (m : ℕ). verdict_of (judge m ends play (state_of t (lands t fs ns count)))) D.of_laid
+  C : Chosen v ends play R.under.state a₀ l.turns.now l.firsts.now l.lens.now st l.count place laid' c.name c.land
+  C = chosen v ends play n L l.turns.now l.firsts.now l.lens.now st l.count place R.under c h laid' lp
 
-  module _ (laid' marks' : List Bool) (queue' : List ℕ) (touched' : List Bool) (contacts' : List ℕ)
-      (el : length laid' ≡ length laid) (em : length marks' ≡ length marks) (eq : length queue' ≡ length queue) (et : length touched' ≡ length touched) (ec : length contacts' ≡ length contacts)
-      (lp : laid' ≡ laid_by (length laid) ends t) (bars' : List ℕ) (told : Bars (length laid) ends play t (lands t fs ns count) bars') (c : Named) (h : SaidReady c ≡ verdict_of (judge (length laid) ends play (state_of t (lands t fs ns count)))) where
-    e : length laid' ≡ v
-    e = el ∙ D.of_laid
+  -- the choice of the round, for which the path is laid
+  pub choice_so : (s : State) × ((a : Choice) × Chosen v ends play s a l.turns.now l.firsts.now l.lens.now st l.count place laid' c.name c.land)
+  choice_so = (R.under.state, (a₀, C))
 
-    desk' : Desk v (length play) laid' marks' queue' touched' contacts' inside own
-    desk' = record { of_laid = e; of_marks = em ∙ D.of_marks; of_queue = eq ∙ D.of_queue; of_touched = et ∙ D.of_touched; of_contacts = ec ∙ D.of_contacts; of_inside = D.of_inside; of_own = D.of_own }
-
-    h' : SaidReady c ≡ verdict_of (judge v ends play (state_of t (lands t fs ns count)))
-    h' = said_so (SaidReady c) h
-
-    C : Chosen v ends play R.under.state (found v ends play n L t fs ns st count place R.under c h').0 t fs ns st count place laid' c.name c.land
-    C = chosen v ends play n L t fs ns st count place R.under c h' laid' (lp ∙ ap (λ (m : ℕ). laid_by m ends t) D.of_laid)
-
-    pub ask_lay : Plan (length laid') ends play × (Tables (length laid') ends first more × (Desk (length laid') (length play) laid' marks' queue' touched' contacts' inside own × (((s : State) × ((a : Choice) × Chosen (length laid') ends play s a t fs ns st count place laid' c.name c.land))
-        × Bars (length laid') ends play t (lands t fs ns count) bars')))
-    ask_lay = (
-      subst (λ (m : ℕ). Plan m ends play) (sym e) L,
-      (
-        subst (λ (m : ℕ). Tables m ends first more) (sym e) B,
-        (
-          subst (λ (m : ℕ). Desk m (length play) laid' marks' queue' touched' contacts' inside own) (sym e) desk',
-          (
-            (R.under.state, ((found v ends play n L t fs ns st count place R.under c h').0, subst (λ (m : ℕ). Chosen m ends play R.under.state (found v ends play n L t fs ns st count place R.under c h').0 t fs ns st count place laid' c.name c.land) (sym e) C)),
-            subst (λ (m : ℕ). Bars m ends play t (lands t fs ns count) bars') (sym el) told,
-          ),
-        ),
-      ),
-    )
-
-    pub next_round : count - 2 ≢ n → (t' fs' ns' : List ℕ) (marks'' : List Bool) (queue'' : List ℕ) (touched'' : List Bool) (contacts'' : List ℕ) (inside'' own'' : List Bool) (st' : List ℕ) (place' : ℕ) (bars'' : List ℕ)
-        → ((s : State) (a : Choice) → Chosen (length laid') ends play s a t fs ns st count place laid' c.name c.land → Standing (length laid') ends play (lay (length laid') ends play s a) t' fs' ns' st' (count + 1) place')
-        → length t' ≡ length t → length fs' ≡ length fs → length ns' ≡ length ns → length marks'' ≡ length marks' → length queue'' ≡ length queue' → length touched'' ≡ length touched' → length contacts'' ≡ length contacts'
-        → length inside'' ≡ length inside → length own'' ≡ length own → length st' ≡ length st → Bars (length laid') ends play t' (lands t' fs' ns' (count + 1)) bars''
-        → Round v ends play n t₀ fs₀ ns₀ st₀ t' fs' ns' laid' marks'' queue'' touched'' contacts'' inside'' own'' st' (count + 1) place' bars''
-    next_round ne t' fs' ns' marks'' queue'' touched'' contacts'' inside'' own'' st' place' bars'' F a1 a2 a3 a4 a5 a6 a7 a8 a9 a10 b =
-        let S = subst (λ (m : ℕ). (s : State) (a : Choice) → Chosen m ends play s a t fs ns st count place laid' c.name c.land → Standing m ends play (lay m ends play s a) t' fs' ns' st' (count + 1) place') e F R.under.state (found v ends play n L t fs ns st count place R.under c h').0 C in
-        record {
-          under = going v ends play n L t fs ns st count place R.under c h' ne t' fs' ns' st' place' S;
-          desk = record { of_laid = e; of_marks = a4 ∙ desk'.of_marks; of_queue = a5 ∙ desk'.of_queue; of_touched = a6 ∙ desk'.of_touched; of_contacts = a7 ∙ desk'.of_contacts; of_inside = a8 ∙ D.of_inside; of_own = a9 ∙ D.of_own };
-          of_turns = a1 ∙ R.of_turns;
-          of_firsts = a2 ∙ R.of_firsts;
-          of_lens = a3 ∙ R.of_lens;
-          of_story = a10 ∙ R.of_story;
-          bars = subst (λ (m : ℕ). Bars m ends play t' (lands t' fs' ns' (count + 1)) bars'') e b;
-        }
+  pub next_round : l.count - 2 ≢ n → (l' : Laying) (d' d'' : Desk) (st' : List ℕ) (place' : ℕ) (bars' : List ℕ)
+      → ((s : State) (a : Choice) → Chosen v ends play s a l.turns.now l.firsts.now l.lens.now st l.count place laid' c.name c.land → Standing v ends play (lay v ends play s a) l'.turns.now l'.firsts.now l'.lens.now st' l'.count place')
+      → l'.count ≡ l.count + 1 → length laid' ≡ length laid → LayingKept l l' → DeskKept d d' → DeskKept d' d'' → length st' ≡ length st
+      → Bars v ends play l'.turns.now (lands l'.turns.now l'.firsts.now l'.lens.now l'.count) bars'
+      → Round v ends play n l₀ l' laid' d₀ d'' st₀ st' place' bars'
+  next_round ne l' d' d'' st' place' bars' F e el kl kd kd' es b =
+      let k = desk_then d d' d'' kd kd' in
+      record {
+        under =
+            subst (λ (m : ℕ). Under v ends play n l'.turns.now l'.firsts.now l'.lens.now st' m place') (sym e)
+            (going v ends play n L l.turns.now l.firsts.now l.lens.now st l.count place R.under c h ne l'.turns.now l'.firsts.now l'.lens.now st' place'
+            (subst (λ (m : ℕ). Standing v ends play (lay v ends play R.under.state a₀) l'.turns.now l'.firsts.now l'.lens.now st' m place') e (F R.under.state a₀ C)));
+        ports = el ∙ R.ports;
+        roomy = roomy_then v (length play) d d'' R.roomy k;
+        of_laying = laying_then l₀ l l' R.of_laying kl;
+        of_desk = desk_then d₀ d d'' R.of_desk k;
+        of_story = es ∙ R.of_story;
+        bars = b;
+      }
 
 -- ---- the start
 
@@ -256,8 +217,8 @@ start_paths : (v : ℕ) (ends : List ℕ) (play : List Bool) (c : ℕ) → lengt
 unfolding start
 start_paths v ends play c = refl
 
-pub setting_out : (v : ℕ) (ends : List ℕ) (play : List Bool) (n : ℕ) (t fs ns st : List ℕ) (place : ℕ) → Standing v ends play (start v ends play (first_channel v ends play)) t fs ns st 2 place → Under v ends play n t fs ns st 2 place
-setting_out v ends play n t fs ns st place S =
+pub setting_out : (v : ℕ) (ends : List ℕ) (play : List Bool) (n : ℕ) (t fs ns st : List ℕ) (count place : ℕ) → Standing v ends play (start v ends play (first_channel v ends play)) t fs ns st count place → Under v ends play n t fs ns st count place
+setting_out v ends play n t fs ns st count place S =
     let z = start_paths v ends play (first_channel v ends play) in
     let e : n - length (start v ends play (first_channel v ends play)).paths ≡ n = omega arith in
     record {
@@ -266,36 +227,3 @@ setting_out v ends play n t fs ns st place S =
       most = omega arith;
       goes = ap (λ (k : ℕ). rounds v ends play k (start v ends play (first_channel v ends play))) e ∙ laying_is v ends play n;
     }
-
--- what laying the first cycle asks, and the rounds after it, once the neighbours are found
-module _ (v : ℕ) (ends : List ℕ) (play : List Bool) (n : ℕ) (L : Plan v ends play) (first more : List ℕ) (e : length first ≡ v) (ef : first ≡ first_darts v ends) (em : more ≡ more_darts ends)
-    (laid marks : List Bool) (queue : List ℕ) (touched : List Bool) (contacts : List ℕ) (inside own : List Bool) (D : Desk v (length play) laid marks queue touched contacts inside own) where
-  tables : Tables (length first) ends first more
-  tables = subst (λ (m : ℕ). Tables m ends first more) (sym e) (record { firsts = ef; mores = em })
-
-  pub ask_first : (t fs ns st : ℕ) → t ≡ length ends → length play + 2 ≤ fs → length play + 2 ≤ ns → 4 * length play + v + 4 ≤ st
-      → Plan (length first) ends play × (Tables (length first) ends first more × ((t ≡ length ends) × ((length play + 2 ≤ fs) × ((length play + 2 ≤ ns)
-      × (((length contacts ≡ length first) × (length inside ≡ length first) × (length own ≡ length play)) × (4 * length play + length first + 4 ≤ st))))))
-  ask_first t fs ns st a b c d =
-      (subst (λ (m : ℕ). Plan m ends play) (sym e) L, (tables, (a, (b, (c, ((D.of_contacts ∙ sym e, D.of_inside ∙ sym e, D.of_own), omega (arith, e)))))))
-
-  -- the numbers are all 0
-  cleared : (m : ℕ) (t : List ℕ) (ls : List (List ℕ)) (bars bars' : List ℕ) → length bars ≡ length ends → bars' ≡ take 0 bars ++ replicate (length bars - 0) 0 ++ drop (length bars) bars → Bars m ends play t ls bars'
-  cleared m t ls bars bars' a b =
-      subst (Bars m ends play t ls) (sym (b ∙ fill_whole bars (length bars) 0 refl)) (bars_none m ends play t ls (length bars) a)
-
-  pub ask_rounds : (contacts' : List ℕ) (inside' own' : List Bool) → length contacts' ≡ length contacts → length inside' ≡ length inside → length own' ≡ length own → (t fs ns st : List ℕ) (place : ℕ)
-      → Standing (length first) ends play (start (length first) ends play (first_channel (length first) ends play)) t fs ns st 2 place
-      → (bars bars' : List ℕ) → length bars ≡ length ends → bars' ≡ take 0 bars ++ replicate (length bars - 0) 0 ++ drop (length bars) bars
-      → Plan (length first) ends play × (Tables (length first) ends first more × (Desk (length first) (length play) laid marks queue touched contacts' inside' own' × (Under (length first) ends play n t fs ns st 2 place
-      × Bars (length first) ends play t (lands t fs ns 2) bars')))
-  ask_rounds contacts' inside' own' a b c t fs ns st place S bars bars' f g = (
-    subst (λ (m : ℕ). Plan m ends play) (sym e) L,
-    (
-      tables,
-      (
-        record { of_laid = D.of_laid ∙ sym e; of_marks = D.of_marks ∙ sym e; of_queue = D.of_queue ∙ sym e; of_touched = D.of_touched ∙ sym e; of_contacts = a ∙ D.of_contacts ∙ sym e; of_inside = b ∙ D.of_inside ∙ sym e; of_own = c ∙ D.of_own },
-        (setting_out (length first) ends play n t fs ns st place S, cleared (length first) t (lands t fs ns 2) bars bars' f g),
-      ),
-    ),
-  )

@@ -8,28 +8,29 @@
 --   said_of o                what an outcome says
 -- Assumes nothing.
 use Rattle.std.specs.Prelude.{cond, ℕ, eqb, length}
+use Rattle.std.specs.declared.ops.ControlFlow.{ControlFlow}
+use Rattle.std.specs.declared.ops.ControlFlow.TheVariants.{Continue, Break}
 use Rattle.rules.specs.Laying.{Word as RuleWord, FLAT, STUCK, PARTIAL, Outcome, Told}
+use Rattle.fragment.specs.declared.Choice.{Choice}
 use Rattle.fragment.specs.declared.Verdict.{Verdict}
 use Rattle.fragment.specs.declared.Verdict.TheVariants.{Flat as SaidFlat, Stuck as SaidStuck, Ready as SaidReady}
 use Rattle.rounds.specs.declared.Word.{Word}
 use Rattle.rounds.specs.declared.Word.TheVariants.{Flat, Stuck, Partial}
-use Rattle.rounds.specs.declared.Next.{Next}
-use Rattle.rounds.specs.declared.Next.TheVariants.{Ends, Lays}
 use Rattle.rounds.specs.declared.End.{End}
 
-abbrev pub said_by_round : Verdict → Next
-said_by_round SaidFlat = Ends Flat
-said_by_round (SaidStuck k) = Ends (Stuck k)
-said_by_round (SaidReady c) = Lays c
+abbrev pub said_by_round : Verdict → ControlFlow Word Choice
+said_by_round SaidFlat = Break Flat
+said_by_round (SaidStuck k) = Break (Stuck k)
+said_by_round (SaidReady c) = Continue c
 
-abbrev pub said_by_cap : ℕ → ℕ → Next → Next
-said_by_cap p n x = cond (eqb p n) (Ends Partial) x
+abbrev pub said_by_cap : ℕ → ℕ → ControlFlow Word Choice → ControlFlow Word Choice
+said_by_cap p n x = cond (eqb p n) (Break Partial) x
 
-abbrev pub first_said : Next → Next → Next
-first_said (Ends w) y = Ends w
-first_said (Lays c) y = y
+abbrev pub first_said : ControlFlow Word Choice → ControlFlow Word Choice → ControlFlow Word Choice
+first_said (Break w) y = Break w
+first_said (Continue c) y = y
 
-abbrev pub after_round : Verdict → ℕ → ℕ → Next
+abbrev pub after_round : Verdict → ℕ → ℕ → ControlFlow Word Choice
 after_round v p n = first_said (said_by_round v) (said_by_cap p n (said_by_round v))
 
 abbrev pub word_in : Word → RuleWord

@@ -2,18 +2,22 @@
 #![tactic(auto)]
 
 ghost use Rattle.std.specs.Prelude.{◌≡◌, ◌+◌, ◌*◌, ◌≤◌, length};
-ghost use Rattle.reach.specs.Floods.{Tables};
 ghost use Rattle.land.specs.Walks.{lands};
+ghost use Rattle.split.specs.Kept.{Kept};
+ghost use Rattle.fragment.specs.Desks.{Kept as DeskKept};
 ghost use Rattle.fragment.specs.Bars.{Bars};
-ghost use Rattle.step.specs.Rooms.{Desk, Plan};
-ghost use Rattle.rounds.specs.Words.{said_by_round, said_by_cap, first_said, after_round};
+ghost use Rattle.step.specs.Rooms.{Roomy, Plan};
+ghost use Rattle.rounds.specs.Words.{said_by_round, after_round};
 ghost use Rattle.rounds.specs.Rooms.{Under, Left};
 
-use fragment::{Choice, Verdict};
-use numbers::fill;
+use fragment::{Choice, Desk, Verdict};
+use land::Lands;
+use reach::Net;
+use split::Laying;
+use std::ops::ControlFlow;
 
 // What the end of a laying says: the word, and the name where it is STUCK.
-#[derive(Clone, Copy)]
+#[derive(Clone, Copy, PartialEq, Eq)]
 pub enum Word {
     Flat,
     Stuck(usize),
@@ -21,7 +25,7 @@ pub enum Word {
 }
 
 // The end of a laying: the word, the number of paths, the number of lands, and the length of the story.
-#[derive(Clone, Copy)]
+#[derive(Clone, Copy, PartialEq, Eq)]
 pub struct End {
     pub word: Word,
     pub paths: usize,
@@ -29,92 +33,66 @@ pub struct End {
     pub story: usize,
 }
 
-// What follows a round: the end of the laying with its word, or a path for the choice.
-#[derive(Clone, Copy)]
-enum Next {
-    Ends(Word),
-    Lays(Choice),
-}
-
-// What the round says of itself: FLAT, STUCK, or the choice to lay a path for.
-fn said_by_round(said: Verdict) -> Next
+// What the round says of itself: the end of the laying with FLAT or STUCK, or the choice to lay a path for.
+fn said_by_round(said: Verdict) -> ControlFlow<Word, Choice>
     ensures { result ≡ said_by_round said }
 {
     match said {
-        Verdict::Flat => Next::Ends(Word::Flat),
-        Verdict::Stuck(k) => Next::Ends(Word::Stuck(k)),
-        Verdict::Ready(c) => Next::Lays(c),
+        Verdict::Flat => ControlFlow::Break(Word::Flat),
+        Verdict::Stuck(k) => ControlFlow::Break(Word::Stuck(k)),
+        Verdict::Ready(c) => ControlFlow::Continue(c),
     }
 }
 
-// What n says: PARTIAL where so many paths are laid; otherwise what follows is left as it is.
-fn said_by_cap(paths: usize, n: usize, next: Next) -> Next
-    ensures { result ≡ said_by_cap paths n next }
-{
-    if paths == n {
-        return Next::Ends(Word::Partial);
-    }
-    next
-}
-
-// The first of two, or where it does not end the laying the second.
-fn first_said(first: Next, second: Next) -> Next
-    ensures { result ≡ first_said first second }
-{
-    match first {
-        Next::Ends(word) => Next::Ends(word),
-        Next::Lays(_) => second,
-    }
-}
-
-// What follows a round after so many paths: what it says of itself goes before n.
-fn after_round(said: Verdict, paths: usize, n: usize) -> Next
+// What follows a round after so many paths: what it says of itself goes before n, which ends the laying with PARTIAL.
+fn after_round(said: Verdict, paths: usize, n: usize) -> ControlFlow<Word, Choice>
     ensures { result ≡ after_round said paths n }
 {
-    let by_round = said_by_round(said);
-    let by_cap = said_by_cap(paths, n, by_round);
-    first_said(by_round, by_cap)
+    let choice = said_by_round(said)?;
+    if paths == n {
+        return ControlFlow::Break(Word::Partial);
+    }
+    ControlFlow::Continue(choice)
 }
 
 // Lays path after path, n at most, from the first cycle on.
+// (`laid`, `bars` and the story are kept from round to round, so they are no part of the desk.)
 fn rounds(
-    ends: &[u16],
-    first: &[u16],
-    more: &[u16],
-    play: &[bool],
+    net: Net<'_>,
     n: usize,
-    turns: &mut [u16],
-    firsts: &mut [u16],
-    lens: &mut [u16],
+    laying: &mut Laying<'_>,
     laid: &mut [bool],
-    marks: &mut [bool],
-    queue: &mut [u16],
-    touched: &mut [bool],
-    contacts: &mut [u16],
-    inside: &mut [bool],
-    own: &mut [bool],
+    desk: &mut Desk<'_>,
+    bars: &mut [u16],
     story: &mut [u16],
     begun: usize,
-    bars: &mut [u16],
 ) -> End
-    requires plan { Plan (length first.now) ends.now play.now }
-    requires tables { Tables (length first.now) ends.now first.now more.now }
-    requires desk { Desk (length first.now) (length play.now) laid.old marks.old queue.old touched.old contacts.old inside.old own.old }
-    requires under { Under (length first.now) ends.now play.now n turns.old firsts.old lens.old story.old 2 begun }
-    requires bars { Bars (length first.now) ends.now play.now turns.old (lands turns.old firsts.old lens.old 2) bars.old }
-    ensures { Left (length first.now) ends.now play.now n first.now more.now turns.new firsts.new lens.new story.new result }
+    requires plan { Plan (length net.first.now) net.ends.now net.play.now }
+    requires ports { length laid.old ≡ length net.first.now }
+    requires roomy { Roomy (length net.first.now) (length net.play.now) desk.old }
+    requires under { let l = laying.old in Under (length net.first.now) net.ends.now net.play.now n l.turns.now l.firsts.now l.lens.now story.old l.count begun }
+    requires bars { let l = laying.old in Bars (length net.first.now) net.ends.now net.play.now l.turns.now (lands l.turns.now l.firsts.now l.lens.now l.count) bars.old }
+    ensures left { let g = net.entry in let m = laying.new in Left (length g.first.now) g.ends.now g.play.now n g.first.now g.more.now m.turns.now m.firsts.now m.lens.now story.new result }
+    ensures kept { Kept laying.old laying.new × DeskKept desk.old desk.new }
 {
-    let mut count = 2;
     let mut at = begun;
     loop {
-        let said = fragment::judge(
-            ends, first, more, play, turns, firsts, lens, count, laid, marks, queue, touched,
-            contacts, bars,
-        );
+        // Each slice has a name of its own while it is lent, by which the check knows that it stays as it is.
+        let turns = &mut *laying.turns;
+        let firsts = &mut *laying.firsts;
+        let lens = &mut *laying.lens;
+        let count = laying.count;
+        let kept = Lands {
+            turns,
+            firsts,
+            lens,
+            count,
+        };
+        let said = fragment::judge(net, kept, laid, desk, bars);
         let paths = count - 2;
         let next = after_round(said, paths, n);
         match next {
-            Next::Ends(word) => {
+            ControlFlow::Break(word) => {
                 return End {
                     word,
                     paths,
@@ -122,55 +100,46 @@ fn rounds(
                     story: at,
                 };
             }
-            Next::Lays(c) => {
-                at = step::lay_one(
-                    ends, first, more, play, turns, firsts, lens, count, c.name, c.land, laid,
-                    marks, queue, touched, contacts, inside, own, story, at, bars,
-                );
-                count += 1;
+            ControlFlow::Continue(choice) => {
+                at = step::lay_one(net, laying, choice, laid, desk, bars, story, at);
             }
         }
     }
 }
 
-// Lays a plate by the channels in play: the first cycle, then n paths at most.
+// Lays a plate by the channels in play: the first cycle, then n paths at most. (`first` and `more` are filled here, so there is no net before.)
 pub fn lay_out(
     ends: &[u16],
     play: &[bool],
     n: usize,
     first: &mut [u16],
     more: &mut [u16],
-    turns: &mut [u16],
-    firsts: &mut [u16],
-    lens: &mut [u16],
+    laying: &mut Laying<'_>,
     laid: &mut [bool],
-    marks: &mut [bool],
-    queue: &mut [u16],
-    touched: &mut [bool],
-    contacts: &mut [u16],
-    inside: &mut [bool],
-    own: &mut [bool],
+    desk: &mut Desk<'_>,
     story: &mut [u16],
     bars: &mut [u16],
 ) -> End
     requires plan { Plan (length first.old) ends.now play.now }
     requires more { length more.old ≡ length ends.now }
-    requires turns { length turns.old ≡ length ends.now }
-    requires starts { length play.now + 2 ≤ length firsts.old }
-    requires sizes { length play.now + 2 ≤ length lens.old }
-    requires desk { Desk (length first.old) (length play.now) laid.old marks.old queue.old touched.old contacts.old inside.old own.old }
+    requires turns { length laying.old.turns.now ≡ length ends.now }
+    requires starts { length play.now + 2 ≤ length laying.old.firsts.now }
+    requires sizes { length play.now + 2 ≤ length laying.old.lens.now }
+    requires ports { length laid.old ≡ length first.old }
+    requires roomy { Roomy (length first.old) (length play.now) desk.old }
     requires room { 4 * length play.now + length first.old + 4 ≤ length story.old }
     requires bars { length bars.old ≡ length ends.now }
-    ensures { Left (length first.old) ends.now play.now n first.new more.new turns.new firsts.new lens.new story.new result }
+    ensures left { let m = laying.new in Left (length first.old) ends.now play.now n first.new more.new m.turns.now m.firsts.now m.lens.now story.new result }
+    ensures kept { Kept laying.old laying.new × DeskKept desk.old desk.new }
 {
     reach::neighbours(ends, first, more);
-    let begun = step::lay_first(
-        ends, first, more, play, turns, firsts, lens, contacts, inside, own, story,
-    );
-    let darts = bars.len();
-    fill(bars, 0, darts, 0);
-    rounds(
-        ends, first, more, play, n, turns, firsts, lens, laid, marks, queue, touched, contacts,
-        inside, own, story, begun, bars,
-    )
+    let net = Net {
+        ends,
+        first,
+        more,
+        play,
+    };
+    let begun = step::lay_first(net, laying, desk, story);
+    bars.fill(0);
+    rounds(net, n, laying, laid, desk, bars, story, begun)
 }

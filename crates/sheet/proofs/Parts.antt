@@ -1,10 +1,10 @@
 -- The parts of a sheet that passed tests 1 to 9, at the start of arrays for the largest plate.
 --   Known b v e      v and e are the counts of the file b, which has the length of its layout; they are within the limits, and the darts leave the ports
--- known: such a sheet is known. same: its number of channels, as a plate file's. ends_front, turns_front: its pairs and turns at the start of an array. lent_part, place_in: that start, lent. tests_ready, tests_as: what tests 12 to 14 ask, and what they give.
+-- few_channels, has_turns: such a sheet has at most so many channels, and all its turns. known: it is known. turns_front: its turns at the start of an array. lent_part, front_in: that start, lent, and how long it is. tests_ready, tests_as: what tests 12 to 14 ask, and what they give.
 -- Assumes nothing.
 use mathlib.Core.Path.{◌≡◌, refl, sym, ap, ◌∙◌, subst}
 use mathlib.Core.List.{List, ◌++◌}
-use Prim.Native.Nat.{ℕ, ◌+◌, ◌-◌, ◌*◌, ◌≤◌}
+use Prim.Native.Nat.{ℕ, ◌+◌, ◌*◌, ◌≤◌}
 use native.Mathlib.Omega.{arith}
 use lib.ListN.{length, take, drop}
 use lib.Seq.{length-take-le, take_at}
@@ -14,12 +14,16 @@ use Rattle.rules.specs.Refusals.{passed, file_tests, turn_tests}
 use Rattle.laws.proofs.Refusals.{file_tests_passed, length_ends, length_turns}
 use Rattle.reach.specs.Neighbours.{Ports}
 use Rattle.rings.proofs.Tables.{back_length}
-use Rattle.plate.specs.State.{most_darts, no_ends, copied}
-use Rattle.plate.proofs.Laws.{sheet_ports, sheet_channels, sheet_ends, sheet_size}
-use Rattle.plate.proofs.Copies.{copied_ends}
-use Rattle.plate.proofs.Copies.{ends_front as plate-front}
+use Rattle.plate.specs.State.{most_darts}
+use Rattle.plate.proofs.Laws.{sheet_ports, sheet_channels, sheet_size}
 
 -- ---- what tests 1 to 9 leave
+
+pub few_channels : (b : List ℕ) → file_tests sheet_file b ≡ passed → channels_in plate_file b ≤ limits1.most_channels
+few_channels b h = omega (arith, (file_tests_passed sheet_file b h).sized.channels.1, sheet_channels b)
+
+pub has_turns : (b : List ℕ) → file_tests sheet_file b ≡ passed → length b ≡ 8 + 6 * channels_in plate_file b
+has_turns b h = omega (arith, sheet_size b (file_tests_passed sheet_file b h), sheet_channels b)
 
 pub record Known (b : List ℕ) (v e : ℕ) : Type 0 where
   pub ports : v ≡ ports_in sheet_file b
@@ -46,16 +50,6 @@ known b v e h p q =
 -- ---- the pairs and the turns
 
 module _ (b : List ℕ) (v e : ℕ) (k : Known b v e) where
-  abbrev same : e ≡ channels_in plate_file b
-  same = k.channels ∙ sheet_channels b
-
-  ends_copied : (old new : List ℕ) → old ≡ no_ends → new ≡ copied (take (8 + 2 * e - 8) (drop 8 b)) old → new ≡ copied (ends_in plate_file b) no_ends
-  ends_copied old new p q = copied_ends b e same old new (omega (arith, k.long, same)) p q
-
-  pub ends_front : (old new : List ℕ) → old ≡ no_ends → new ≡ copied (take (8 + 2 * e - 8) (drop 8 b)) old → take (2 * channels_in sheet_file b) new ≡ ends_in sheet_file b
-  ends_front old new p q =
-      ap (λ (n : ℕ). take (2 * n) new) (sym k.channels) ∙ plate-front b e same new (omega (arith, k.few, same)) (ends_copied old new p q) ∙ sym (sheet_ends b)
-
   turns_are : (n start : ℕ) → n ≡ 2 * e → start ≡ 8 + 2 * e → numbers 2 n start b ≡ turns_in sheet_file b
   unfolding turns_in turns_at pairs_at
   turns_are n start p q =
@@ -75,8 +69,8 @@ module _ (b : List ℕ) (v e : ℕ) (k : Known b v e) where
   pub lent_part : (l part : List ℕ) → take (2 * channels_in sheet_file b) l ≡ part → take (2 * e) l ≡ part
   lent_part l part p = ap (λ (n : ℕ). take (2 * n) l) k.channels ∙ p
 
-  pub place_in : (l : List ℕ) → most_darts ≡ length l → 2 * e ≤ length l
-  place_in l p = omega (arith, k.few)
+  pub front_in : (l : List ℕ) → most_darts ≡ length l → 2 * e ≡ length (take (2 * e) l)
+  front_in l p = sym (length-take-le (2 * e) l (omega (arith, k.few)))
 
   -- what tests 12 to 14 ask
   pub tests_ready : (ends turns : List ℕ) → ends ≡ ends_in sheet_file b → turns ≡ turns_in sheet_file b → Ports v ends × (length turns ≡ length ends) × (v ≤ most_darts) × (length ends ≤ most_darts)

@@ -11,59 +11,32 @@ ghost use Rattle.rules.specs.Sheets.{is_flat, judge_sheet, counted, darts_read, 
 ghost use Rattle.plate.specs.Answers.{test_of};
 ghost use Rattle.plate.specs.State.{most_darts};
 ghost use Rattle.sheet.specs.Answers.{answer_of};
-ghost use Rattle.sheet.specs.Stages.{lent_for, in_order, lands_in, read_into};
+ghost use Rattle.sheet.specs.Stages.{lent_for, lands_in, read_into};
 
-use plate::{Kind, Plate, Refusal, Test};
+use plate::{Fault, Kind, Plate, Refusal};
 
 // The number of lands, and whether the sheet is flat.
-#[derive(Clone, Copy)]
+#[derive(Clone, Copy, PartialEq, Eq)]
 pub struct Count {
     pub lands: usize,
     pub flat: bool,
 }
 
-// What reading a sheet gives.
-#[derive(Clone, Copy)]
-pub enum Sheet {
-    Judged(Count),
-    Refused(Refusal),
-}
-
-// ---- the pairs and the turns of a file
-
-// The number in two bytes, little-endian.
-fn word(low: u8, high: u8) -> u16
-    ensures { result ≡ low + 256 * high }
-{
-    low as u16 + 256 * (high as u16)
-}
+// ---- the turns of a file
 
 // The numbers of two bytes each in the file from `start` on, as many as `turns` has places.
 fn copy_turns(file: &[u8], start: usize, turns: &mut [u16])
     requires { start + 2 * length turns.old ≤ length file.now }
     ensures { turns.new ≡ numbers 2 (length turns.old) start file.now }
 {
-    let mut i = 0;
-    while i < turns.len() {
+    for (i, turn) in turns.iter_mut().enumerate() {
         let at = start + 2 * i;
-        turns[i] = word(file[at], file[at + 1]);
-        i += 1;
+        *turn = u16::from_le_bytes([file[at], file[at + 1]]);
     }
 }
 
-// The ports of the pairs of a sheet that passed tests 1 to 9, at the start of an array for the largest plate.
-fn ends_in(file: &[u8]) -> [u16; Plate::MOST_DARTS]
-    requires { file_tests sheet_file file.now ≡ passed }
-    ensures { (take (2 * channels_in sheet_file file.now) result ≡ ends_in sheet_file file.now) × (most_darts ≡ length result) }
-{
-    let head = plate::counts(file);
-    let end = Plate::PAIRS_AT + 2 * head.channels;
-    let mut ends = Plate::no_ends();
-    plate::copy_ends(&file[Plate::PAIRS_AT..end], &mut ends);
-    ends
-}
-
 // The turns of a sheet that passed tests 1 to 9, at the start of an array for the largest plate.
+#[tactic(auto, using(crate::proofs::Parts::few_channels, crate::proofs::Parts::has_turns))]
 fn turns_in(file: &[u8]) -> [u16; Plate::MOST_DARTS]
     requires { file_tests sheet_file file.now ≡ passed }
     ensures { (take (2 * channels_in sheet_file file.now) result ≡ turns_in sheet_file file.now) × (most_darts ≡ length result) }
@@ -71,7 +44,7 @@ fn turns_in(file: &[u8]) -> [u16; Plate::MOST_DARTS]
     let head = plate::counts(file);
     let darts = 2 * head.channels;
     let start = Plate::PAIRS_AT + darts;
-    let mut turns = Plate::no_turns();
+    let mut turns = [Plate::MISSING; Plate::MOST_DARTS];
     copy_turns(file, start, &mut turns[..darts]);
     turns
 }
@@ -80,50 +53,37 @@ fn turns_in(file: &[u8]) -> [u16; Plate::MOST_DARTS]
 
 // Tests 12 to 14 of a sheet that passed tests 1 to 9. A call of its own, so that its arrays are off the stack before the lands are listed.
 #[inline(never)]
-fn file_turn_tests(file: &[u8]) -> Test
+#[tactic(auto, using(crate::proofs::Parts::few_channels))]
+fn file_turn_tests(file: &[u8]) -> Result<(), Refusal>
     requires { file_tests sheet_file file.now ≡ passed }
     ensures { test_of result ≡ turn_tests (ports_in sheet_file file.now) (ends_in sheet_file file.now) (turns_in sheet_file file.now) }
 {
     let head = plate::counts(file);
     let darts = 2 * head.channels;
-    let ends = ends_in(file);
+    let ends = plate::ends_in(file);
     let turns = turns_in(file);
     rings::turn_tests(&ends[..darts], &turns[..darts], head.ports)
 }
 
 // Test 15 of so many lent darts and lengths.
-fn lent_test(channels: usize, darts: usize, lengths: usize) -> Test
+#[tactic(auto, unfolding(plate::specs::Answers::test_of, rules::specs::Refusals::lent_test, rules::specs::Refusals::refuse, rules::specs::Lists::any))]
+fn lent_test(channels: usize, darts: usize, lengths: usize) -> Result<(), Refusal>
     requires { channels < 65536 }
     ensures { test_of result ≡ lent_test (lent_for channels darts lengths) }
 {
-    if darts < 2 * channels {
-        return Test::Refused(Refusal {
-            number: 15,
+    if darts < 2 * channels || lengths < channels {
+        return Err(Refusal {
+            fault: Fault::Lent,
             place: 0,
         });
     }
-    if lengths < channels {
-        return Test::Refused(Refusal {
-            number: 15,
-            place: 0,
-        });
-    }
-    Test::Passed
-}
-
-// The first of two tests, or where it was passed the second.
-fn in_order(first: Test, second: Test) -> Test
-    ensures { test_of result ≡ in_order (test_of first) (test_of second) }
-{
-    match first {
-        Test::Passed => second,
-        Test::Refused(x) => Test::Refused(x),
-    }
+    Ok(())
 }
 
 // ---- lands
 
 // The lands of a sheet that passed tests 1 to 9 and 12 to 14, listed in buffers that have place for them, and whether it is flat.
+#[tactic(auto, using(crate::proofs::Parts::few_channels))]
 fn judge_lands(file: &[u8], darts: &mut [u16], lengths: &mut [u16]) -> Count
     requires tested { file_tests sheet_file file.now ≡ passed }
     requires turned { turn_tests (ports_in sheet_file file.now) (ends_in sheet_file file.now) (turns_in sheet_file file.now) ≡ passed }
@@ -144,30 +104,22 @@ fn judge_lands(file: &[u8], darts: &mut [u16], lengths: &mut [u16]) -> Count
 // ---- the two calls
 
 // Reads a sheet into its lands: the darts of the lands, one after another, then 65,535 up to 2E; their lengths, then 0 up to E. Answers how many they are and whether the sheet is flat, or refuses and writes nothing.
-pub fn read_sheet(file: &[u8], darts: &mut [u16], lengths: &mut [u16]) -> Sheet
+pub fn read_sheet(file: &[u8], darts: &mut [u16], lengths: &mut [u16]) -> Result<Count, Refusal>
     ensures answer { answer_of result ≡ counted (read_into file.now darts.old lengths.old) }
     ensures darts { darts.new ≡ darts_read (read_into file.now darts.old lengths.old) darts.old }
     ensures lengths { lengths.new ≡ lengths_read (read_into file.now darts.old lengths.old) lengths.old }
 {
-    let tested = plate::file_tests(Kind::Sheet, file);
-    if let Test::Refused(x) = tested {
-        return Sheet::Refused(x);
-    }
-    let head = plate::counts(file);
-    let turned = file_turn_tests(file);
-    let lent = lent_test(head.channels, darts.len(), lengths.len());
-    let rest = in_order(turned, lent);
-    if let Test::Refused(y) = rest {
-        return Sheet::Refused(y);
-    }
-    Sheet::Judged(judge_lands(file, darts, lengths))
+    plate::file_tests(Kind::Sheet, file)?;
+    file_turn_tests(file)?;
+    lent_test(plate::counts(file).channels, darts.len(), lengths.len())?;
+    Ok(judge_lands(file, darts, lengths))
 }
 
 // Judges a sheet: how many lands it has and whether it is flat, or its refusal.
-pub fn judge(file: &[u8]) -> Sheet
+pub fn judge(file: &[u8]) -> Result<Count, Refusal>
     ensures { answer_of result ≡ counted (judge_sheet file.now) }
 {
-    let mut darts = Plate::no_turns();
-    let mut lengths = Plate::no_turns();
+    let mut darts = [Plate::MISSING; Plate::MOST_DARTS];
+    let mut lengths = [0u16; Plate::MOST_CHANNELS];
     read_sheet(file, &mut darts, &mut lengths)
 }

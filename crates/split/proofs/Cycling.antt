@@ -3,15 +3,15 @@
 --   blank               as many turns as t has, all missing
 --   t', ls              the turns and the lands after the first cycle
 -- from_first, to_last, back_last: the cycle from its first dart on, up to its last, and its reverse. close_front, close_rest, closed: what `close` asks of the functions that it calls, and what it leaves.
--- blank_of: what `fill` leaves. first_two: the first two lands. begin_darts, begin_cycle, begin_back, begun: what `begin` asks of the functions that it calls, and what it leaves.
+-- first_two: the first two lands. begin_darts, begin_cycle, begin_back, begun: what `begin` asks of the functions that it calls, and what it leaves.
 -- Assumes nothing.
 use mathlib.Core.Path.{◌≡◌, refl, sym, ap, ◌∙◌, subst}
-use mathlib.Core.List.{List, [], ◌∷◌, ◌++◌, append-nil}
+use mathlib.Core.List.{List, [], ◌∷◌, ◌++◌}
 use Prim.Native.Nat.{ℕ, suc, ◌+◌, ◌-◌, ◌%◌, ◌<◌, ◌≤◌}
 use native.Mathlib.Nat.{not-suc-le-zero}
 use native.Mathlib.Omega.{arith}
 use lib.ListN.{length, get_or, set, take, drop, replicate, length-drop, length-replicate}
-use lib.Seq.{take_all, take-length, take-suc, drop-length}
+use lib.Seq.{take_all, take-length, take-suc}
 use Rattle.rules.specs.Terms.{reverse, missing, least, listed}
 use Rattle.rules.specs.Laying.{back, first, link, around}
 use Rattle.laws.proofs.Counts.{count, count_head}
@@ -73,14 +73,8 @@ module _ (l : List ℕ) (h : 0 < length l) (d e : ℕ) (f : d ≡ get_or l 0 0) 
 
 -- ---- `begin`
 
--- every turn is missing
-pub blank_of : (t : List ℕ) (mark : ℕ) → mark ≡ missing → take 0 t ++ replicate (length t - 0) mark ++ drop (length t) t ≡ replicate (length t) missing
-blank_of t mark e =
-    let all : length t - 0 ≡ length t = omega arith in
-    ap (λ (m : List ℕ). replicate (length t - 0) mark ++ m) (drop-length t) ∙ append-nil (replicate (length t - 0) mark)
-    ∙ ap (λ (k : ℕ). replicate k mark) all ∙ ap (replicate (length t)) e
-
 module _ (t fs ns l : List ℕ) (C : Cyclic t fs ns l) where
+  -- every turn is missing
   abbrev blank : List ℕ
   blank = replicate (length t) missing
 

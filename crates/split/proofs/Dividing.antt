@@ -2,7 +2,7 @@
 --   ls, l, a, b         the lands, the one that is divided, its stretches A and B
 --   t', ls'             the turns and the lands of the split
 --   t₁                  the turns that `turn` leaves
--- firsts_are, lens_are: the first darts and lengths of lands are those that they are walked by. store_two, store_other, store_length: one land replaced and one added. darts_as, link_twice: turns of the same length, and turns linked twice. first_in, last_of: the ends of a stretch are in it.
+-- firsts_are, lens_are: the first darts and lengths of lands are those that they are walked by. store_two, store_other, store_length: one land replaced and one added. darts_as: turns of the same length. first_in, last_of: the ends of a stretch are in it.
 -- kept, made: the path and then B keeps the land's number; the path reversed and then A is the next land. divide_land, divide_corners, divide_ends, divide_kept, divide_made: what `divide` asks of the functions that it calls. divided: what it leaves.
 -- Assumes nothing.
 use mathlib.Core.Path.{◌≡◌, refl, sym, ap, ◌∙◌, subst}
@@ -75,10 +75,6 @@ store_length fs n i u v = length-set (set fs i u) n v ∙ length-set fs i u
 -- turns of the same length
 pub darts_as : (t u l : List ℕ) → length u ≡ length t → Darts t l → Darts u l
 darts_as t u l e p = record { even = rw e p.even; few = omega (arith, p.few); inside = rw e p.inside }
-
--- linked twice
-pub link_twice : (t u v : List ℕ) (d e : ℕ) (m : List ℕ) (f g : ℕ) (k : List ℕ) → u ≡ link d m e t → v ≡ link f k g u → v ≡ link f k g (link d m e t)
-link_twice t u v d e m f g k a b = b ∙ ap (link f k g) a
 
 -- the first dart of a stretch is one of its darts, and so is the last
 pub first_in : (m : List ℕ) → 1 ≤ length m → 1 ≤ count (first m) m

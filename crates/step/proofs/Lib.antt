@@ -4,3 +4,5 @@ pub mod Crossing
 pub mod Telling
 pub mod Entering
 pub mod Forgetting
+pub mod Playing
+pub mod Keeping

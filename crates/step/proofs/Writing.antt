@@ -93,10 +93,6 @@ cycled st q d h =
     let n : length q + 1 ≡ suc (length q) = omega arith in
     rw (e, cycled_all st q d h) (take_at ((length q + 1) ∷ d ∷ q) (drop (length q) (take (length st - 2) (drop 2 st)) ++ drop (length st - 2) (drop 2 st)) (suc (suc (length q))) refl ∙ ap (λ (m : ℕ). m ∷ d ∷ q) n ∙ ap (λ (m : List ℕ). suc (length q) ∷ d ∷ m) (sym (append-nil q)))
 
--- three numbers written, by equal numbers
-pub same_entry : (st : List ℕ) (n a b d a' b' d' : ℕ) → a ≡ a' → b ≡ b' → d ≡ d' → set (set (set st n a) (n + 1) b) (n + 2) d ≡ set (set (set st n a') (n + 1) b') (n + 2) d'
-same_entry st n a b d a' b' d' e f g = rw (e, f, g) refl
-
 -- the part of a buffer from f on
 pub part_long : (st : List ℕ) (f v : ℕ) → f + v ≤ length st → v ≤ length (take (length st - f) (drop f st))
 part_long st f v h = simp (length-take, length-drop) (omega arith)

@@ -1,6 +1,6 @@
 -- The room that a laying works in, and what its steps ask and leave: v ports, the ends of the darts, the channels in play.
 --   Plan v ends play                a plate that can be laid by the channels in play
---   Desk v e ..                     the working slices have a place for each of v ports, and `own` for each of e channels
+--   Roomy v e d                     each slice of the desk d has a place for each of v ports, and `own` for each of e channels
 --   contacts_at v ends play lp k     the contacts of the fragment that channel k names, lp being the laid ports
 --   path_at v ends play lp k         the path that is laid for it
 --   Passable v ends play lp k       it has two contacts at least, and a path between the two smallest
@@ -19,6 +19,7 @@ use Rattle.laws.proofs.Reaches.{Wide}
 use Rattle.laws.proofs.Choices.{Open, Sensible}
 use Rattle.laws.proofs.Rounds.{Layable, Kept}
 use Rattle.split.proofs.Laws.{Holds}
+use Rattle.fragment.specs.declared.Desk.{Desk}
 use Rattle.fragment.specs.Rounds.{laid_by}
 use Rattle.step.specs.declared.Way.{Way}
 use Rattle.step.specs.Stories.{story_of}
@@ -29,14 +30,13 @@ pub record Plan (v : ℕ) (ends : List ℕ) (play : List Bool) : Type 0 where
   pub some : (c : ℕ) × T (at play c)
   pub small : v < missing
 
-pub record Desk (v e : ℕ) (laid marks : List Bool) (queue : List ℕ) (touched : List Bool) (contacts : List ℕ) (inside own : List Bool) : Type 0 where
-  pub of_laid : length laid ≡ v
-  pub of_marks : length marks ≡ v
-  pub of_queue : length queue ≡ v
-  pub of_touched : length touched ≡ v
-  pub of_contacts : length contacts ≡ v
-  pub of_inside : length inside ≡ v
-  pub of_own : length own ≡ e
+pub record Roomy (v e : ℕ) (d : Desk) : Type 0 where
+  pub of_marks : length d.marks.now ≡ v
+  pub of_queue : length d.queue.now ≡ v
+  pub of_touched : length d.touched.now ≡ v
+  pub of_contacts : length d.contacts.now ≡ v
+  pub of_inside : length d.inside.now ≡ v
+  pub of_own : length d.own.now ≡ e
 
 -- ---- the path of a fragment
 

@@ -1,16 +1,20 @@
 // One step of a laying: the first cycle, or one path for a fragment, each with its entry in the story.
 #![tactic(auto)]
 
-ghost use Rattle.std.specs.Prelude.{◌≡◌, true, false, ◌+◌, ◌*◌, ◌<◌, ◌≤◌, length, set};
-ghost use Rattle.rules.specs.Lists.{at, seek};
-ghost use Rattle.rules.specs.Laying.{State, Choice, start, lay, first_channel};
-ghost use Rattle.reach.specs.Floods.{Tables};
+ghost use Rattle.std.specs.Prelude.{◌≡◌, true, false, ◌++◌, ◌+◌, ◌*◌, ◌<◌, ◌≤◌, T, length, set, drop};
+ghost use Rattle.rules.specs.Lists.{at};
+ghost use Rattle.rules.specs.Laying.{State, Choice as RuleChoice, start, lay, first_channel};
 ghost use Rattle.land.specs.Walks.{lands};
+ghost use Rattle.way.specs.Marks.{Sizes, reached_by, path_over};
+ghost use Rattle.split.specs.Kept.{Kept};
+ghost use Rattle.fragment.specs.Desks.{Kept as DeskKept};
 ghost use Rattle.fragment.specs.Bars.{Bars};
-ghost use Rattle.step.specs.Rooms.{Desk, Passable, Crossed, forgotten, Standing, Chosen, Plan};
+ghost use Rattle.step.specs.Rooms.{Roomy, Passable, Crossed, forgotten, Standing, Chosen, Plan};
 
-use numbers::{mark_all, narrow, wide};
+use fragment::{Choice, Desk, Two};
 use plate::Plate;
+use reach::Net;
+use split::Laying;
 
 // A path: the two ports that it joins, and how many darts it has.
 #[derive(Clone, Copy)]
@@ -20,43 +24,17 @@ struct Way {
     size: usize,
 }
 
-// The lowest channel in play; the number of channels where none is.
-fn first_channel(play: &[bool]) -> usize
-    ensures { result ≡ seek (at play.now) 0 (length play.now) }
-{
-    let mut c = 0;
-    while c < play.len() {
-        if play[c] {
-            return c;
-        }
-        c += 1;
-    }
-    c
-}
-
-// The channels in play without channel c.
-fn all_but(play: &[bool], c: usize, own: &mut [bool])
-    requires own { length own.old ≡ length play.now }
-    requires channel { c < length play.now }
-    ensures { own.new ≡ set play.now c false }
-{
-    let mut k = 0;
-    while k < play.len() {
-        own[k] = play[k];
-        k += 1;
-    }
-    own[c] = false;
-}
+// `Plan` is asked of ports, ends and channels before a `Net` of them is there, and `Roomy` ties a desk to a net: they stay clauses. The story is numbers in a lent slice, since there is no heap.
 
 // The front of an entry of the story: a path's fragment, its land, and how many darts it has.
-fn enter(story: &mut [u16], at: usize, name: usize, land: usize, size: usize)
+fn enter(story: &mut [u16], at: usize, choice: Choice, size: usize)
     requires room { at + 3 ≤ length story.old }
-    requires small { (name < 65536) × (land < 65536) × (size < 65536) }
-    ensures { story.new ≡ set (set (set story.old at name) (at + 1) land) (at + 2) size }
+    requires small { (choice.name < 65536) × (choice.land < 65536) × (size < 65536) }
+    ensures { story.new ≡ set (set (set story.old at choice.name) (at + 1) choice.land) (at + 2) size }
 {
-    story[at] = narrow(name);
-    story[at + 1] = narrow(land);
-    story[at + 2] = narrow(size);
+    story[at] = choice.name as u16;
+    story[at + 1] = choice.land as u16;
+    story[at + 2] = size as u16;
 }
 
 // Forgets what is known of the lands for the channels that `own` flags.
@@ -64,146 +42,125 @@ fn forget(own: &[bool], bars: &mut [u16])
     requires { length bars.old ≡ 2 * length own.now }
     ensures { bars.new ≡ forgotten own.now bars.old }
 {
-    let mut j = 0;
-    while j < bars.len() {
+    for j in 0..bars.len() {
         if own[j / 2] {
             bars[j] = 0;
         }
-        j += 1;
     }
 }
 
-// The path that is laid for the fragment that channel k names, at the front of `out`, and the fragment's channels, flagged in `own`.
-fn cross(
-    ends: &[u16],
-    first: &[u16],
-    more: &[u16],
-    play: &[bool],
-    laid: &[bool],
-    k: usize,
-    marks: &mut [bool],
-    queue: &mut [u16],
-    touched: &mut [bool],
-    contacts: &mut [u16],
-    inside: &mut [bool],
-    own: &mut [bool],
+// The path from x to y by the usable channels through the free ports: its darts are written to the front of `out`, and their number is answered.
+fn path_by(
+    net: Net<'_>,
+    usable: &[bool],
+    free: &[bool],
+    x: usize,
+    y: usize,
+    far: &mut [u16],
     out: &mut [u16],
-) -> Way
-    requires plan { Plan (length laid.now) ends.now play.now }
-    requires tables { Tables (length laid.now) ends.now first.now more.now }
-    requires desk { Desk (length laid.now) (length play.now) laid.now marks.old queue.old touched.old contacts.old inside.old own.old }
-    requires room { length laid.now ≤ length out.old }
-    requires passable { Passable (length laid.now) ends.now play.now laid.now k }
-    ensures { Crossed (length laid.now) ends.now play.now laid.now k out.old out.new own.new result }
+) -> usize
+    requires sizes { Sizes (length net.first.now) net.ends.now }
+    requires usable { length usable.now ≡ length net.play.now }
+    requires free { length free.now ≡ length net.first.now }
+    requires marks { length far.old ≡ length free.now }
+    requires room { length free.now ≤ length out.old }
+    requires ports { (x < length free.now) × (y < length free.now) }
+    requires reached { T (at (reached_by (length free.now) net.ends.now usable.now free.now x y (length free.now)) x) }
+    ensures number { result ≡ length (path_over net.entry.ends.now usable.now free.now x y) }
+    ensures darts { let q = path_over net.entry.ends.now usable.now free.now x y in out.new ≡ q ++ drop (length q) out.old }
+    ensures marks { length far.new ≡ length far.old }
 {
-    let two = fragment::two_contacts(
-        ends, first, more, play, laid, marks, queue, touched, contacts, k,
-    );
-    let x = two.x;
-    let y = two.y;
-    fragment::fragment_of(ends, first, more, play, laid, k, inside, own, marks, queue);
-    let size = way::path(ends, first, more, own, inside, x, y, contacts, out);
+    let over = Net {
+        ends: net.ends,
+        first: net.first,
+        more: net.more,
+        play: usable,
+    };
+    way::path(over, free, x, y, far, out)
+}
+
+// The path that is laid for the fragment that channel k names, at the front of `out`; the fragment's channels are flagged in `desk.own`.
+fn cross(net: Net<'_>, laid: &[bool], k: usize, desk: &mut Desk<'_>, out: &mut [u16]) -> Way
+    requires plan { Plan (length net.first.now) net.ends.now net.play.now }
+    requires ports { length laid.now ≡ length net.first.now }
+    requires roomy { Roomy (length net.first.now) (length net.play.now) desk.old }
+    requires room { length net.first.now ≤ length out.old }
+    requires passable { Passable (length net.first.now) net.ends.now net.play.now laid.now k }
+    ensures crossed { let n = net.entry in Crossed (length n.first.now) n.ends.now n.play.now laid.now k out.old out.new desk.new.own.now result }
+    ensures kept { DeskKept desk.old desk.new }
+{
+    let Two { x, y } = fragment::two_contacts(net, laid, desk, k);
+    fragment::fragment_of(net, laid, desk, k);
+    let own = &mut *desk.own;
+    let inside = &mut *desk.inside;
+    let size = path_by(net, own, inside, x, y, desk.contacts, out);
     Way { x, y, size }
 }
 
-// Lays one path, for the fragment of this name in this land, and adds its entry to the story. Forgets what is known of the lands for the fragment's channels, and keeps it for all others. Answers the length of the story.
+// (`bars` is kept from path to path, so it is no part of the desk; a type for the story and where it ends would be no plainer.)
+// Lays one path, for the fragment and in the land of the choice, and adds its entry to the story. Forgets what is known of the lands for the fragment's channels, and keeps it for all others. Answers the length of the story.
 pub fn lay_one(
-    ends: &[u16],
-    first: &[u16],
-    more: &[u16],
-    play: &[bool],
-    turns: &mut [u16],
-    firsts: &mut [u16],
-    lens: &mut [u16],
-    count: usize,
-    name: usize,
-    land: usize,
+    net: Net<'_>,
+    laying: &mut Laying<'_>,
+    choice: Choice,
     laid: &[bool],
-    marks: &mut [bool],
-    queue: &mut [u16],
-    touched: &mut [bool],
-    contacts: &mut [u16],
-    inside: &mut [bool],
-    own: &mut [bool],
+    desk: &mut Desk<'_>,
+    bars: &mut [u16],
     story: &mut [u16],
     at: usize,
-    bars: &mut [u16],
 ) -> usize
-    requires plan { Plan (length laid.now) ends.now play.now }
-    requires tables { Tables (length laid.now) ends.now first.now more.now }
-    requires desk { Desk (length laid.now) (length play.now) laid.now marks.old queue.old touched.old contacts.old inside.old own.old }
-    requires chosen { (s : State) × ((c : Choice) × Chosen (length laid.now) ends.now play.now s c turns.old firsts.old lens.old story.old count at laid.now name land) }
-    requires bars { Bars (length laid.now) ends.now play.now turns.old (lands turns.old firsts.old lens.old count) bars.old }
-    ensures standing { (s : State) (c : Choice) → Chosen (length laid.now) ends.now play.now s c turns.old firsts.old lens.old story.old count at laid.now name land → Standing (length laid.now) ends.now play.now (lay (length laid.now) ends.now play.now s c) turns.new firsts.new lens.new story.new (count + 1) result }
-    ensures bars { Bars (length laid.now) ends.now play.now turns.new (lands turns.new firsts.new lens.new (count + 1)) bars.new }
+    requires plan { Plan (length net.first.now) net.ends.now net.play.now }
+    requires ports { length laid.now ≡ length net.first.now }
+    requires roomy { Roomy (length net.first.now) (length net.play.now) desk.old }
+    requires chosen { let l = laying.old in (s : State) × ((c : RuleChoice) × Chosen (length net.first.now) net.ends.now net.play.now s c l.turns.now l.firsts.now l.lens.now story.old l.count at laid.now choice.name choice.land) }
+    requires bars { let l = laying.old in Bars (length net.first.now) net.ends.now net.play.now l.turns.now (lands l.turns.now l.firsts.now l.lens.now l.count) bars.old }
+    ensures standing { let n = net.entry in let l = laying.old in let m = laying.new in (s : State) (c : RuleChoice) → Chosen (length n.first.now) n.ends.now n.play.now s c l.turns.now l.firsts.now l.lens.now story.old l.count at laid.now choice.name choice.land → Standing (length n.first.now) n.ends.now n.play.now (lay (length n.first.now) n.ends.now n.play.now s c) m.turns.now m.firsts.now m.lens.now story.new m.count result }
+    ensures bars { let n = net.entry in let m = laying.new in Bars (length n.first.now) n.ends.now n.play.now m.turns.now (lands m.turns.now m.firsts.now m.lens.now m.count) bars.new }
+    ensures count { laying.new.count ≡ laying.old.count + 1 }
+    ensures kept { Kept laying.old laying.new × DeskKept desk.old desk.new }
 {
     let from = at + 3;
-    let way = cross(
-        ends,
-        first,
-        more,
-        play,
-        laid,
-        name,
-        marks,
-        queue,
-        touched,
-        contacts,
-        inside,
-        own,
-        &mut story[from..],
-    );
+    let way = cross(net, laid, choice.name, desk, &mut story[from..]);
+    let own = &mut *desk.own;
     forget(own, bars);
-    let size = way.size;
-    let end = from + size;
-    split::divide(
-        ends,
-        turns,
-        firsts,
-        lens,
-        count,
-        land,
-        narrow(way.x),
-        narrow(way.y),
-        &story[from..end],
-    );
-    enter(story, at, name, land, size);
+    let end = from + way.size;
+    let (x, y) = (way.x as u16, way.y as u16);
+    split::divide(net.ends, laying, choice.land, x, y, &story[from..end]);
+    enter(story, at, choice, way.size);
     end
 }
 
 // Lays the first cycle, and begins the story with it. Answers the length of the story.
 pub fn lay_first(
-    ends: &[u16],
-    first: &[u16],
-    more: &[u16],
-    play: &[bool],
-    turns: &mut [u16],
-    firsts: &mut [u16],
-    lens: &mut [u16],
-    far: &mut [u16],
-    inside: &mut [bool],
-    own: &mut [bool],
+    net: Net<'_>,
+    laying: &mut Laying<'_>,
+    desk: &mut Desk<'_>,
     story: &mut [u16],
 ) -> usize
-    requires plan { Plan (length first.now) ends.now play.now }
-    requires tables { Tables (length first.now) ends.now first.now more.now }
-    requires turns { length turns.old ≡ length ends.now }
-    requires starts { length play.now + 2 ≤ length firsts.old }
-    requires sizes { length play.now + 2 ≤ length lens.old }
-    requires desk { (length far.old ≡ length first.now) × (length inside.old ≡ length first.now) × (length own.old ≡ length play.now) }
-    requires room { 4 * length play.now + length first.now + 4 ≤ length story.old }
-    ensures { Standing (length first.now) ends.now play.now (start (length first.now) ends.now play.now (first_channel (length first.now) ends.now play.now)) turns.new firsts.new lens.new story.new 2 result }
+    requires plan { Plan (length net.first.now) net.ends.now net.play.now }
+    requires turns { length laying.old.turns.now ≡ length net.ends.now }
+    requires starts { length net.play.now + 2 ≤ length laying.old.firsts.now }
+    requires sizes { length net.play.now + 2 ≤ length laying.old.lens.now }
+    requires desk { let d = desk.old in (length d.contacts.now ≡ length net.first.now) × (length d.inside.now ≡ length net.first.now) × (length d.own.now ≡ length net.play.now) }
+    requires room { 4 * length net.play.now + length net.first.now + 4 ≤ length story.old }
+    ensures standing { let n = net.entry in let m = laying.new in Standing (length n.first.now) n.ends.now n.play.now (start (length n.first.now) n.ends.now n.play.now (first_channel (length n.first.now) n.ends.now n.play.now)) m.turns.now m.firsts.now m.lens.now story.new m.count result }
+    ensures count { laying.new.count ≡ 2 }
+    ensures others { let d = desk.old in let f = desk.new in (f.marks.now ≡ d.marks.now) × (f.queue.now ≡ d.queue.now) × (f.touched.now ≡ d.touched.now) }
+    ensures kept { Kept laying.old laying.new × DeskKept desk.old desk.new }
 {
-    let c = first_channel(play);
+    let c = net.play.iter().position(|on| *on).unwrap();
     let d = 2 * c;
-    let a = wide(ends[d]);
-    let b = wide(ends[d + 1]);
-    all_but(play, c, own);
-    mark_all(inside, true);
-    let n = way::path(ends, first, more, own, inside, b, a, far, &mut story[2..]);
-    story[0] = narrow(n + 1);
-    story[1] = narrow(d);
+    let a = net.ends[d] as usize;
+    let b = net.ends[d + 1] as usize;
+    let own = &mut *desk.own;
+    let inside = &mut *desk.inside;
+    own.copy_from_slice(net.play);
+    own[c] = false;
+    inside.fill(true);
+    let n = path_by(net, own, inside, b, a, desk.contacts, &mut story[2..]);
+    story[0] = (n + 1) as u16;
+    story[1] = d as u16;
     let end = n + 2;
-    split::begin(turns, firsts, lens, &story[1..end], Plate::MISSING);
+    split::begin(laying, &story[1..end], Plate::MISSING);
     end
 }

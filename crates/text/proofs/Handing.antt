@@ -1,5 +1,5 @@
 -- From laying to listing: a plate that was read and laid without a cap can be listed from the slices that hold what was laid, and what is written is the file's listing.
--- rings_of: the rings of a plate that is FLAT. held_of: what `write_listing` asks of the slices. listing_of_lem: what it writes is the listing.
+-- rings_of: the rings of a plate that is FLAT. walkable_of: the lands can be walked. held_of: what `write_listing` asks of the slices. listing_of_lem: what it writes is the listing.
 -- Assumes nothing.
 use mathlib.Core.Path.{◌≡◌, sym, ap, ◌∙◌, subst}
 use mathlib.Core.List.{List, [], ◌∷◌}
@@ -98,22 +98,21 @@ module _ (b : List ℕ) (p : Plate) (h : read_plate b ≡ given p) where
     unfolding laid_out
     lands_are = holds_lands p.ends (whole_plate p) o.state (kept_laid_out b p h without_cap) t fs ns r.lands E.holds
 
-    walkable : Walkable t fs ns r.lands
+    pub walkable_of : Walkable t fs ns r.lands
     unfolding laid_out
-    walkable = holds_walkable p.ends (whole_plate p) o.state (kept_laid_out b p h without_cap) t fs ns r.lands E.holds p.ports (layable p (accepted b p h))
+    walkable_of = holds_walkable p.ends (whole_plate p) o.state (kept_laid_out b p h without_cap) t fs ns r.lands E.holds p.ports (layable p (accepted b p h))
 
     story_is : story ≡ story_of cyc o.state.paths
     unfolding laid_out
     story_is = E.told
 
-    pub held_of : Held p.ports p.ends first more t fs ns r.lands story r.paths r.word
+    pub held_of : Held p.ports p.ends t story r.paths r.word
     held_of =
         let A = accepted b p h in
         record {
-          even = omega (arith, A.size);
           few = omega (arith, A.size, A.channels.1);
           told = subst (λ (n : ℕ). Told (length p.ends) n story) (sym paths_are) (subst (Told (length p.ends) (length o.state.paths)) (sym story_is) told_laid);
-          sheet = λ z. record { lands = walkable; tables = E.tables; rings = subst (Ringed p.ports p.ends) (sym turns_are) (rings_of (sym word_is ∙ ap word_in z)) };
+          rings = λ z. subst (Ringed p.ports p.ends) (sym turns_are) (rings_of (sym word_is ∙ ap word_in z));
         }
 
     pub listing_of_lem : laid_lines (plate_of p.ports p.channels p.ends) (cycle_of story) (outcome_of r.word t fs ns r.lands story r.paths) ≡ listing b

@@ -4,6 +4,8 @@
 ghost use Rattle.std.specs.Prelude.{◌≡◌, ◌≤◌, length};
 
 use laid::Laid;
+use plate::Refusal;
+use rounds::Word;
 use std::io;
 
 // ---- files
@@ -34,66 +36,41 @@ fn ring(channels: usize) -> [u8; 1208]
     ensures { 1208 ≡ length result }
 {
     let mut file = [0u8; 1208];
-    file[0] = 70;
-    file[1] = 80;
-    file[2] = 76;
+    file[..3].copy_from_slice(b"FPL");
     file[3] = 1;
     file[5] = 200;
-    file[6] = (channels % 256) as u8;
-    file[7] = (channels / 256 % 256) as u8;
-    let mut k = 0;
-    while k < channels {
+    file[6..8].copy_from_slice(&(channels as u16).to_le_bytes());
+    for k in 0..channels {
         file[8 + 2 * k] = (k % 200) as u8;
         file[9 + 2 * k] = ((k + k / 200 + 1) % 200) as u8;
-        k += 1;
     }
     file
 }
 
 // ---- answers
 
-// Prints a space and a number.
-fn number(rt: &impl Print, x: usize) -> io::Result<()> {
-    print!(rt; " {x}")
-}
-
-// Ends a line.
-fn end_line(rt: &impl Print) -> io::Result<()> {
-    println!(rt; "")
-}
-
-// Prints a word and numbers on a line.
+// Prints a word and numbers on a line. (`try_sheet` has the same: a crate for one function of two programs would be no plainer.)
 fn numbers(rt: &impl Print, word: &str, s: &[u16]) -> io::Result<()> {
     print!(rt; "{word}")?;
     for x in s {
-        number(rt, *x as usize)?;
+        print!(rt; " {x}")?;
     }
-    end_line(rt)
+    println!(rt; "")
 }
 
 // Prints an answer on a line.
-fn answer(rt: &impl Print, got: Laid) -> io::Result<()> {
+fn answer(rt: &impl Print, got: Result<Laid, Refusal>) -> io::Result<()> {
     match got {
-        Laid::Flat(paths) => {
-            print!(rt; "FLAT")?;
-            number(rt, paths)?;
+        Ok(laid) => {
+            let paths = laid.paths;
+            match laid.word {
+                Word::Flat => println!(rt; "FLAT {paths}"),
+                Word::Stuck(name) => println!(rt; "STUCK {paths} {name}"),
+                Word::Partial => println!(rt; "PARTIAL {paths}"),
+            }
         }
-        Laid::Stuck(paths, name) => {
-            print!(rt; "STUCK")?;
-            number(rt, paths)?;
-            number(rt, name)?;
-        }
-        Laid::Partial(paths) => {
-            print!(rt; "PARTIAL")?;
-            number(rt, paths)?;
-        }
-        Laid::Refused(x) => {
-            print!(rt; "REFUSED")?;
-            number(rt, x.number as usize)?;
-            number(rt, x.place as usize)?;
-        }
+        Err(refusal) => println!(rt; "REFUSED {refusal}"),
     }
-    end_line(rt)
 }
 
 // Lays a small plate into t turns, l land darts and s lengths, and prints the answer and the buffers.

@@ -3,7 +3,8 @@
 
 ghost use Rattle.std.specs.Prelude.{◌≤◌, ◌<◌};
 
-use sheet::Sheet;
+use plate::Refusal;
+use sheet::Count;
 use std::io;
 
 // ---- files
@@ -46,43 +47,23 @@ fn two_faults() -> [u8; 44] {
 
 // ---- answers
 
-// Prints a space and a number.
-fn number(rt: &impl Print, x: usize) -> io::Result<()> {
-    print!(rt; " {x}")
-}
-
-// Ends a line.
-fn end_line(rt: &impl Print) -> io::Result<()> {
-    println!(rt; "")
-}
-
-// Prints a word and numbers on a line.
+// Prints a word and numbers on a line. (`try_lay` has the same: a crate for one function of two programs would be no plainer.)
 fn numbers(rt: &impl Print, word: &str, s: &[u16]) -> io::Result<()> {
     print!(rt; "{word}")?;
     for x in s {
-        number(rt, *x as usize)?;
+        print!(rt; " {x}")?;
     }
-    end_line(rt)
+    println!(rt; "")
 }
 
 // Prints an answer on a line.
-fn answer(rt: &impl Print, got: Sheet) -> io::Result<()> {
+fn answer(rt: &impl Print, got: Result<Count, Refusal>) -> io::Result<()> {
     match got {
-        Sheet::Judged(c) => {
-            print!(rt; "lands")?;
-            number(rt, c.lands)?;
-            if c.flat {
-                println!(rt; " flat")
-            } else {
-                println!(rt; " not flat")
-            }
+        Ok(c) => {
+            let word = if c.flat { "flat" } else { "not flat" };
+            println!(rt; "lands {} {word}", c.lands)
         }
-        Sheet::Refused(x) => {
-            print!(rt; "refused")?;
-            number(rt, x.number as usize)?;
-            number(rt, x.place as usize)?;
-            end_line(rt)
-        }
+        Err(x) => println!(rt; "refused {x}"),
     }
 }
 

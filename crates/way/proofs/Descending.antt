@@ -7,7 +7,7 @@
 use mathlib.Core.Path.{◌≡◌, refl, sym, ap, ◌∙◌, subst}
 use mathlib.Core.Bool.{Bool}
 use mathlib.Core.List.{List, [], ◌∷◌, ◌++◌}
-use Prim.Native.Nat.{ℕ, zero, suc, ◌+◌, ◌-◌, ◌≤◌, ◌<◌}
+use Prim.Native.Nat.{ℕ, zero, suc, ◌+◌, ◌-◌, ◌≤◌, ◌<◌, ◌*◌}
 use native.Mathlib.Nat.{zero-add, not-suc-le-zero}
 use native.Mathlib.Numerals.{add-one}
 use native.Mathlib.Omega.{arith}
@@ -21,7 +21,7 @@ use Rattle.laws.proofs.Lists.{All, all_of, drop_head}
 use Rattle.laws.proofs.Reaches.{whole_of, play_dart}
 use Rattle.laws.proofs.Paths.{darts_of, leads_usable, path_good}
 use Rattle.laws.proofs.Shortest.{length_descend}
-use Rattle.way.specs.Marks.{Sizes, within, below, reached_by, sets, AllDarts}
+use Rattle.way.specs.Marks.{within, below, reached_by, sets, AllDarts}
 use Rattle.way.proofs.Within.{length_below}
 
 -- ---- a list written over the front of another
@@ -103,8 +103,8 @@ module _ (ends : List ℕ) (ok : List Bool) (far : List ℕ) (x k : ℕ) (out₀
             rest = t.1 ∙ ap (route ends ok far (enters ends d)) (omega arith);
           }
 
-      pub step_as : (d' q : ℕ) → d' ≡ d → q ≡ enters ends d → enters ends d < length far → Descending ends ok far x k out₀ (set out n d') q (n + 1)
-      step_as d' q a b l = rw (a, b) (step l)
+      pub step_as : (q : ℕ) → q ≡ enters ends d → enters ends d < length far → Descending ends ok far x k out₀ (set out n d) q (n + 1)
+      step_as q a l = rw a (step l)
 
 -- ---- the path
 
@@ -115,12 +115,12 @@ module _ (v : ℕ) (ends : List ℕ) (ok free : List Bool) (x y : ℕ) (far : Li
   route_is = ap (descend ends (in_play ok) x) (sym e)
 
   -- where x is reached, every number of it is a dart
-  pub good : Sizes v ends ok → y < v → T (at (reached_by v ends ok free x y v) x) → AllDarts ends (route ends ok far x k)
-  good s hy t =
-      let g = path_good v ends (in_play ok) (at free) x y (darts_of ends s.few) (whole_of ends (in_play ok) (play_dart ends ok s.sized.channels)) hy t in
+  pub good : length ends < missing → length ends ≡ 2 * length ok → y < v → T (at (reached_by v ends ok free x y v) x) → AllDarts ends (route ends ok far x k)
+  good few even hy t =
+      let g = path_good v ends (in_play ok) (at free) x y (darts_of ends few) (whole_of ends (in_play ok) (play_dart ends ok even)) hy t in
       subst (AllDarts ends) route_is
       (all_of (λ d. d < length ends) (path v ends (in_play ok) (at free) x y)
-      (λ d c. play_dart ends ok s.sized.channels d (leads_usable ends (in_play ok) x (path v ends (in_play ok) (at free) x y) y g.0 d c)))
+      (λ d c. play_dart ends ok even d (leads_usable ends (in_play ok) x (path v ends (in_play ok) (at free) x y) y g.0 d c)))
 
   -- what is written is the path
   pub written : (out out' : List ℕ) → out' ≡ route ends ok far x k ++ drop k out

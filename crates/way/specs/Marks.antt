@@ -1,5 +1,5 @@
 -- Ports marked with their distance to a port. The marks are one list, far: at p stands the mark of port p, 65,535 where it has none.
---   Sizes v ends ok                    every dart of `ends` leaves one of v ports, the darts are two for each channel of `ok` (reach, "Floods"), and ports and darts are each fewer than 65,535
+--   Sizes v ends                       ports and darts are each fewer than 65,535
 --   free_or free x p                    port p is free, or x
 --   begun v y                          of v ports, port y marked 0 and no other marked
 --   lowered far p j                    far with port p marked j, where its mark was larger
@@ -10,18 +10,18 @@
 --   sets v ends ok free x y            the sets that the path from x to y descends through (rules, "Ways")
 --   path_over ends ok free x y          the path from x to y (rules, "Ways") by the channels of `ok` through the ports of `free`
 --   AllDarts ends q                    every number of q is a dart
+--   number_of b                        the number of dart b, and the mark of a missing turn where there is none
+--   dart_of d                          dart d, and none where d is the mark of a missing turn
 -- Assumes nothing.
-use Rattle.std.specs.Prelude.{◌≡◌, Bool, cond, ◌||◌, List, [], ◌∷◌, map, ℕ, zero, suc, ◌<◌, ◌≤◌, eqb, leb, ltb, length, get_or, set, replicate}
+use Rattle.std.specs.Prelude.{◌≡◌, Bool, cond, ◌||◌, List, [], ◌∷◌, map, Option, Some, None, unwrap_or, ℕ, zero, suc, ◌<◌, ◌≤◌, eqb, leb, ltb, length, get_or, set, replicate}
 use Rattle.rules.specs.Lists.{from, at}
-use Rattle.rules.specs.Terms.{missing}
+use Rattle.rules.specs.Terms.{missing, there}
 use Rattle.rules.specs.Ways.{only, iter, grow, larger, layers, in_play, path}
 use Rattle.laws.proofs.Lists.{All}
-use Rattle.reach.specs.Floods.{Sized}
 
 -- ---- what the functions ask
 
-pub record Sizes (v : ℕ) (ends : List ℕ) (ok : List Bool) : Type 0 where
-  pub sized : Sized v ends ok
+pub record Sizes (v : ℕ) (ends : List ℕ) : Type 0 where
   pub few : length ends < missing
   pub small : v < missing
 
@@ -64,3 +64,11 @@ path_over ends ok free x y = path (length free) ends (in_play ok) (at free) x y
 
 abbrev pub AllDarts : List ℕ → List ℕ → Type 0
 AllDarts ends q = All (λ d. d < length ends) q
+
+-- ---- a dart, or none
+
+abbrev pub number_of : Option ℕ → ℕ
+number_of b = unwrap_or b missing
+
+abbrev pub dart_of : ℕ → Option ℕ
+dart_of d = cond (there d) (Some d) None

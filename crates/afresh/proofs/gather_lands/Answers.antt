@@ -32,11 +32,11 @@ loop-d-preserved-then-seen-d c = (_, old _ _ _ _ c.requires.permuting _ _ _ _ _ 
 pub walk_land-end-requires : goal.walk_land-end-requires
 walk_land-end-requires c = record { permuting = c.requires.permuting; dart = c.loop-d-test.true; room = omega (arith, room (goal.at.walk_land-end-requires c).Else-seen-d, c.requires.room.0, c.loop-d.invariant.1.darts_long); marks = omega (arith, c.loop-d.invariant.1.seen_long, c.requires.marks) }
 
-pub overflow_sub-end : goal.overflow_sub-end
-overflow_sub-end c = omega (arith, c.walk_land-end.ensures.end)
+pub overflow_sub-lengths : goal.overflow_sub-lengths
+overflow_sub-lengths c = omega (arith, c.walk_land-end.ensures.end)
 
-pub narrow-requires : goal.narrow-requires
-narrow-requires c = omega (arith, c.walk_land-end.ensures.end, room (goal.at.narrow-requires c).Else-seen-d, c.requires.permuting.small)
+pub overflow_cast-lengths : goal.overflow_cast-lengths
+overflow_cast-lengths c = omega (arith, c.walk_land-end.ensures.end, room (goal.at.overflow_cast-lengths c).Else-seen-d, c.requires.permuting.small)
 
 pub offset_bounds-lengths-lands : goal.offset_bounds-lengths-lands
 offset_bounds-lengths-lands c = omega (arith, few (goal.at.offset_bounds-lengths-lands c).Else-seen-d, c.requires.room.1)
@@ -47,15 +47,9 @@ bounds-lengths-lands c = omega (arith, few (goal.at.bounds-lengths-lands c).Else
 pub overflow_add-lands : goal.overflow_add-lands
 overflow_add-lands c = omega (arith, few (goal.at.overflow_add-lands c).Else-seen-d, c.requires.room.1)
 
-pub overflow_add-d-in-loop-d : goal.overflow_add-d-in-loop-d
-overflow_add-d-in-loop-d c = omega (arith, c.loop-d-test.true)
-
-pub loop-d-smaller : goal.loop-d-smaller
-loop-d-smaller c = omega (arith, c.loop-d-test.true)
-
 pub loop-d-preserved : goal.loop-d-preserved
 unfolding at
-loop-d-preserved c = (_, new _ _ _ _ c.requires.permuting _ _ _ _ _ _ _ c.loop-d.invariant.1 c.loop-d-test.true c.if-seen-d.false c.requires.room.0 c.requires.room.1 c.requires.marks _ _ _ _ c.walk_land-end.ensures.end c.walk_land-end.ensures.darts c.walk_land-end.ensures.seen c.narrow.ensures)
+loop-d-preserved c = (_, new _ _ _ _ c.requires.permuting _ _ _ _ _ _ _ c.loop-d.invariant.1 c.loop-d-test.true c.if-seen-d.false c.requires.room.0 c.requires.room.1 c.requires.marks _ _ _ _ c.walk_land-end.ensures.end c.walk_land-end.ensures.darts c.walk_land-end.ensures.seen refl)
 
 pub shape_of-darts : goal.shape_of-darts
 shape_of-darts c = c.loop-d.invariant.1.darts_long

@@ -1,6 +1,6 @@
 -- `afresh::walk_land` meets its contract. The loop's invariant: d and the darts of the land after it, put at k and marked, give what the whole land gives, put at n and marked.
 -- Assumes nothing.
-use mathlib.Core.Path.{sym, ◌∙◌}
+use mathlib.Core.Path.{refl, sym, ◌∙◌}
 use Prim.Native.Nat.{◌<◌}
 use native.Mathlib.Omega.{arith}
 use lib.ListN.{length, length-set}
@@ -19,8 +19,8 @@ place c = place_in _ _ _ _ _ _ _ _ _ _ c.loop-d.invariant.1 c.requires.room
 pub loop-d-init : goal.loop-d-init
 loop-d-init c = let r = land_of_lem _ c.requires.permuting c.args.a c.requires.dart in (r.0, start _ _ _ _ _ _ r.1)
 
-pub narrow-requires : goal.narrow-requires
-narrow-requires c = omega (arith, dart c, c.requires.permuting.small)
+pub overflow_cast-darts : goal.overflow_cast-darts
+overflow_cast-darts c = omega (arith, dart c, c.requires.permuting.small)
 
 pub offset_bounds-darts-k : goal.offset_bounds-darts-k
 offset_bounds-darts-k c = omega (arith, place (goal.at.offset_bounds-darts-k c).At-loop-d, c.loop-d.invariant.1.darts_long)
@@ -45,11 +45,11 @@ shape_of-seen-then-d-a c = simp length-set c.loop-d.invariant.1.seen_long
 
 pub returns-then-d-a : goal.returns-then-d-a
 returns-then-d-a c =
-    let w = stop_as _ _ _ _ _ _ _ _ _ _ c.loop-d.invariant.1 _ c.narrow.ensures (sym c.after-d.ensures ∙ c.if-d-a.true) c.requires.room in
+    let w = stop_as _ _ _ _ _ _ _ _ _ _ c.loop-d.invariant.1 _ refl (sym c.after-d.ensures ∙ c.if-d-a.true) c.requires.room in
     record { end = w.0; darts = w.1; seen = w.2 }
 
 pub loop-d-smaller : goal.loop-d-smaller
 loop-d-smaller c = omega (arith, place (goal.at.loop-d-smaller c).At-loop-d, c.loop-d.invariant.1.darts_long)
 
 pub loop-d-preserved : goal.loop-d-preserved
-loop-d-preserved c = step_as _ _ _ _ _ _ _ _ _ _ c.loop-d.invariant.1 _ _ c.narrow.ensures c.after-d.ensures c.if-d-a.false
+loop-d-preserved c = step_as _ _ _ _ _ _ _ _ _ _ c.loop-d.invariant.1 _ _ refl c.after-d.ensures c.if-d-a.false

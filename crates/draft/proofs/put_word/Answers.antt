@@ -1,12 +1,11 @@
--- `draft::put_word` meets its contract: the low byte is stored, and behind it the byte above.
+-- `draft::put_word` meets its contract: the two bytes are the lower one and the one above it.
 -- Assumes nothing.
+use mathlib.Core.Path.{◌∙◌}
 use native.Mathlib.Omega.{arith}
-use lib.ListN.{length-set}
-use Rattle.draft.proofs.Bytes.{put_bytes}
+use Rattle.rules.specs.Lists.{bytes}
+use Rattle.draft.proofs.Bytes.{put_mid}
 use Rattle.draft.proofs.put_word.Goals as goal
 
-pub bounds-out-at-2 : goal.bounds-out-at-2
-bounds-out-at-2 c = simp length-set (omega arith)
-
 pub returns : goal.returns
-returns c = put_bytes _ _ _ _ _ c.low.ensures c.high.ensures
+unfolding bytes
+returns c = put_mid c.args.out.now _ _ c.args.at _ (omega arith) (c.copy_from_slice.ensures.after ∙ c.to_le_bytes.ensures)

@@ -7,7 +7,7 @@ use Rattle.fragment.proofs.Collecting.{Touched}
 use Rattle.fragment.proofs.touch_all.Given as goal
 
 abbrev pub invariant-loop-d : goal.invariant-loop-d
-invariant-loop-d l = Touched l.ends l.play l.laid l.p l.initial.touched l.touched l.d
+invariant-loop-d l = Touched l.net.ends.now l.net.play.now l.laid l.p l.initial.touched l.touched l.d
 
 abbrev pub decreases-loop-d : goal.decreases-loop-d
-decreases-loop-d l = length l.ends - l.d
+decreases-loop-d l = length l.net.ends.now - l.d

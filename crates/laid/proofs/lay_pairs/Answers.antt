@@ -1,29 +1,52 @@
--- `laid::lay_pairs` meets its contract: the part of the array that is lent has the pairs, and each of its channels is in play.
+-- `laid::lay_pairs` meets its contract: the parts of the arrays that are lent have the pairs and every channel in play (Rooming), the lands that laying holds are written out, and its end is answered (Laying).
 -- Assumes nothing.
-use mathlib.Core.Path.{◌≡◌, sym, ap, ◌∙◌}
+use Rattle.std.proofs.Common.{rules}
+use mathlib.Core.Path.{◌≡◌, refl, ap}
 use mathlib.Core.Bool.{true}
-use Prim.Native.Nat.{◌/◌}
-use lib.ListN.{length, take, replicate, length-replicate}
-use Rattle.desk.proofs.Plans.{pairs_as, play_as}
-use Rattle.laid.proofs.Rooming.{pairs_few, ask_lands, sheet_as}
+use mathlib.Core.List.{List}
+use Prim.Native.Nat.{ℕ, ◌/◌}
+use lib.ListN.{length, take, replicate}
+use lib.Seq.{length-take-le}
+use Rattle.rules.specs.Files.{limits1}
+use Rattle.laws.proofs.Lists.{take_replicate}
+use Rattle.desk.proofs.Plans.{pairs_as}
+use Rattle.laid.specs.Answers.{told_of}
+use Rattle.laid.specs.Sheets.{Fit}
+use Rattle.laid.proofs.Laying.{out_walkable, out_room, out_count, sheet_of}
+use Rattle.laid.proofs.Rooming.{pairs_few, fit_as, sheet_as}
 use Rattle.laid.proofs.lay_pairs.Goals as goal
-use Rattle.laid.proofs.lay_pairs.Goals.{After-all_channels-play}
+use Rattle.laid.proofs.lay_pairs.Goals.{After-copy_ends}
 
--- what is lent of the two arrays
-ends_so : (c : After-all_channels-play) → take (length c.args.pairs.now) c.copy_ends.new.ends ≡ c.args.pairs.now
-ends_so c = pairs_as _ _ _ c.no_ends-ends.ensures.1 (pairs_few _ _ _ _ _ _ c.requires).0 c.copy_ends.ensures
+-- what is lent of the arrays
+abbrev lent : ℕ → List ℕ
+lent v = take v (replicate limits1.most_ports 0)
 
-play_so : (c : After-all_channels-play) → take (length c.args.pairs.now / 2) c.all_channels-play.result ≡ replicate (length c.args.pairs.now / 2) true
-play_so c = play_as _ _ (pairs_few _ _ _ _ _ _ c.requires).1 c.all_channels-play.ensures.0
+ports : (c : After-copy_ends) → length (lent c.args.v) ≡ c.args.v
+ports c = length-take-le _ _ c.requires.ports
 
-pub slice_bounds-lay_lands-end : goal.slice_bounds-lay_lands-end
-slice_bounds-lay_lands-end c = sym (ap length (ends_so (goal.at.slice_bounds-lay_lands-end c).After-all_channels-play))
+ends : (c : After-copy_ends) → take (length c.args.pairs.now) c.copy_ends.new.ends ≡ c.args.pairs.now
+ends c = pairs_as _ _ _ refl (pairs_few _ _ _ _ _ _ c.requires).0 c.copy_ends.ensures
 
-pub slice_bounds-lay_lands-end-2 : goal.slice_bounds-lay_lands-end-2
-slice_bounds-lay_lands-end-2 c = sym (ap length (play_so (goal.at.slice_bounds-lay_lands-end-2 c).After-all_channels-play) ∙ length-replicate _ _)
+play : (c : After-copy_ends) → take (length c.args.pairs.now / 2) (replicate limits1.most_channels true) ≡ replicate (length c.args.pairs.now / 2) true
+play c = take_replicate _ limits1.most_channels true (pairs_few _ _ _ _ _ _ c.requires).1
 
-pub lay_lands-requires : goal.lay_lands-requires
-lay_lands-requires c = ask_lands _ _ _ _ _ _ _ _ (ends_so (goal.at.lay_lands-requires c).After-all_channels-play) (play_so (goal.at.lay_lands-requires c).After-all_channels-play) c.requires
+fit : (c : After-copy_ends) → let a = c.args in Fit (length (lent a.v)) (take (length a.pairs.now) c.copy_ends.new.ends) (take (length a.pairs.now / 2) (replicate limits1.most_channels true)) a.n a.turns.now a.lands.now a.lengths.now
+fit c = fit_as _ _ _ _ _ _ c.requires _ _ _ (ports c) (ends c) (play c)
+
+pub lay_out-end-requires-clause-plan : goal.lay_out-end-requires-clause-plan
+lay_out-end-requires-clause-plan c = (fit (goal.at.lay_out-end-requires-clause-plan c).After-copy_ends).plan
+
+pub invariant_of-kept : goal.invariant_of-kept
+invariant_of-kept c = record { walkable = out_walkable _ _ _ _ _ _ _ (fit (goal.at.invariant_of-kept c).After-copy_ends) _ _ _ _ _ _ _ c.lay_out-end.ensures.left _ (search rules) }
+
+pub write_out-requires-clause-lands : goal.write_out-requires-clause-lands
+write_out-requires-clause-lands c = out_room _ _ _ _ _ _ _ (fit (goal.at.write_out-requires-clause-lands c).After-copy_ends) _ _ _ _ _ _ _ c.lay_out-end.ensures.left _ (search rules)
+
+pub write_out-requires-clause-lengths : goal.write_out-requires-clause-lengths
+write_out-requires-clause-lengths c = out_count _ _ _ _ _ _ _ (fit (goal.at.write_out-requires-clause-lengths c).After-copy_ends) _ _ _ _ _ _ _ c.lay_out-end.ensures.left _ refl
 
 pub returns : goal.returns
-returns c = sheet_as _ _ _ c.args.turns.now c.args.lands.now c.args.lengths.now _ _ (ends_so (goal.at.returns c).After-all_channels-play) (play_so (goal.at.returns c).After-all_channels-play) _ _ _ _ _ c.lay_lands.ensures
+returns c =
+    let was = (goal.at.returns c).After-copy_ends in
+    let S = sheet_of _ _ _ _ _ _ _ (fit was) _ _ _ _ _ _ _ c.lay_out-end.ensures.left _ (search rules) _ _ _ c.write_out.ensures.lands c.write_out.ensures.lengths (ap told_of c.from.ensures) in
+    sheet_as _ _ _ _ _ _ c.requires _ _ _ (ports was) (ends was) (play was) _ _ _ _ _ S

@@ -1,9 +1,7 @@
 -- `land::admissible` meets its contract. Three loops, and at each the invariant says that what is left decides what the whole decides.
 -- Assumes nothing.
 use mathlib.Core.Path.{refl}
-use Prim.Native.Nat.{◌≤◌, ◌<◌}
 use native.Mathlib.Omega.{arith}
-use lib.ListN.{length}
 use Rattle.rules.specs.Terms.{leaves}
 use Rattle.land.specs.Walks.{Walkable}
 use Rattle.land.proofs.Walking.{left_start, left_dart, left_step}
@@ -13,53 +11,44 @@ use Rattle.land.proofs.admissible.Goals as goal
 use Rattle.land.proofs.admissible.Goals.{At-contacts}
 
 -- the lands can be walked
-able : (c : At-contacts) → Walkable c.args.turns.now c.args.firsts.now c.args.lens.now c.args.count
-able c = c.requires.walkable
+able : (c : At-contacts) → Walkable c.args.kept.turns.now c.args.kept.firsts.now c.args.kept.lens.now c.args.kept.count
+able c = c.args.kept.walkable
 
 pub lands-init : goal.lands-init
-lands-init c = pass_start _ _ _ _ _ _ _ c.requires.walkable (omega arith)
+lands-init c = pass_start _ _ _ _ _ _ _ c.args.kept.walkable c.requires.from_le_count
 
-pub contacts-init : goal.contacts-init
-contacts-init c = (omega arith, refl)
-
-pub loop-k-init : goal.loop-k-init
-loop-k-init c = (refl, left_start _ _ _ (land_darts _ _ _ _ (able (goal.at.loop-k-init c).At-contacts) _ _ _ c.if-count-next.false c.wide-len.ensures.0 c.wide-first.ensures.0), visit_start _ _ _ _ _)
+pub loop-init : goal.loop-init
+loop-init c = (left_start _ _ _ (land_darts _ _ _ _ (able (goal.at.loop-init c).At-contacts) _ _ _ (omega arith) refl refl), visit_start _ _ _ _ _)
 
 pub offset_bounds-ends-d : goal.offset_bounds-ends-d
-offset_bounds-ends-d c = omega (arith, (left_dart _ _ _ _ c.loop-k-test.true c.loop-k.invariant.1).inside.0)
+offset_bounds-ends-d c = omega (arith, (left_dart _ _ _ _ c.loop-test.true c.loop.invariant.0).inside.0)
 
 pub bounds-ends-d : goal.bounds-ends-d
-bounds-ends-d c = omega (arith, (left_dart _ _ _ _ c.loop-k-test.true c.loop-k.invariant.1).inside.0)
+bounds-ends-d c = omega (arith, (left_dart _ _ _ _ c.loop-test.true c.loop.invariant.0).inside.0)
 
 pub contacts-preserved : goal.contacts-preserved
 unfolding leaves
-contacts-preserved c =
-    let l = c.loop-k.invariant in
-    let more : c.contacts.c < length c.args.contacts.now = omega arith in
-    (omega arith, all_yes _ _ _ _ more l.0 (visit_yes _ _ _ _ _ _ _ c.loop-k-test.true c.if-ends-d.true l.2) c.contacts.invariant.1)
+contacts-preserved c = all_yes _ _ _ (omega arith) (visit_yes _ _ _ _ _ _ _ c.loop-test.true c.if-ends-d.true c.loop.invariant.1) c.contacts.invariant
 
 pub after-d-requires : goal.after-d-requires
-after-d-requires c = left_dart _ _ _ _ c.loop-k-test.true c.loop-k.invariant.1
+after-d-requires c = left_dart _ _ _ _ c.loop-test.true c.loop.invariant.0
 
-pub loop-k-preserved : goal.loop-k-preserved
+pub loop-preserved : goal.loop-preserved
 unfolding leaves
-loop-k-preserved c =
-    let l = c.loop-k.invariant in
-    let more = c.loop-k-test.true in
-    (l.0, left_step _ _ _ _ _ more c.after-d.ensures l.1, visit_no _ _ _ _ _ _ _ _ more c.after-d.ensures c.if-ends-d.false l.2)
+loop-preserved c =
+    let more = c.loop-test.true in
+    (left_step _ _ _ _ _ more c.after-d.ensures c.loop.invariant.0, visit_no _ _ _ _ _ _ _ _ more c.after-d.ensures c.if-ends-d.false c.loop.invariant.1)
 
 pub lands-preserved : goal.lands-preserved
 lands-preserved c =
-    let more : c.contacts.c < length c.args.contacts.now = omega arith in
-    pass_step _ _ _ _ _ _ _ (able (goal.at.lands-preserved c).At-contacts) _ _ _ c.if-count-next.false c.wide-len.ensures.0 c.wide-first.ensures.0
-    (all_no _ _ _ more (visit_end _ _ _ _ _ _ _ c.loop-k-test.false c.loop-k.invariant.2) c.contacts.invariant.1)
+    pass_step _ _ _ _ _ _ _ (able (goal.at.lands-preserved c).At-contacts) _ _ _ (omega arith) refl refl
+    (all_no _ _ _ (omega arith) (visit_end _ _ _ _ _ _ _ c.loop-test.false c.loop.invariant.1) c.contacts.invariant)
     c.lands.invariant
 
-pub returns-then-count-next : goal.returns-then-count-next
-returns-then-count-next c = pass_none _ _ _ _ _ _ _ c.requires.walkable _ c.if-count-next.true c.lands.invariant
+pub returns : goal.returns
+returns c = pass_none _ _ _ _ _ _ _ c.args.kept.walkable _ c.lands-test.false c.lands.invariant
 
-pub returns-after-contacts : goal.returns-after-contacts
-returns-after-contacts c =
-    let over : length c.args.contacts.now ≤ c.contacts.c = omega arith in
-    pass_found _ _ _ _ _ _ _ (able (goal.at.returns-after-contacts c).At-contacts) _ _ _ c.if-count-next.false c.wide-len.ensures.0 c.wide-first.ensures.0
-    (all_end _ _ _ over c.contacts.invariant.1) c.lands.invariant
+pub returns-in-lands : goal.returns-in-lands
+returns-in-lands c =
+    pass_found _ _ _ _ _ _ _ (able (goal.at.returns-in-lands c).At-contacts) _ _ _ (omega arith) refl refl
+    (all_end _ _ _ (omega arith) c.contacts.invariant) c.lands.invariant

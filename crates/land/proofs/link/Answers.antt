@@ -1,24 +1,17 @@
--- `land::link` meets its contract. The loop's invariant: i darts of the path are linked, and linking the rest from the dart at hand gives what linking the whole path from d gives (`Linked`).
+-- `land::link` meets its contract: the darts that come are those of the path.
 -- Assumes nothing.
-use mathlib.Core.Path.{◌∙◌}
-use native.Mathlib.Omega.{arith}
-use Rattle.land.proofs.Linking.{linked_dart, link_start, link_step, link_end}
+use borrow.Author.Tests.{tests}
+use Rattle.std.proofs.Common.{rules}
+use Rattle.std.proofs.lemmas.Iterator.{YieldsList-from_slice, YieldsList-from_map}
+use Rattle.land.proofs.Linking.{path_gives}
 use Rattle.land.proofs.link.Goals as goal
 
-pub loop-i-init : goal.loop-i-init
-loop-i-init c = (omega arith, link_start _ _ _ _ c.requires.darts)
-
-pub lead-requires : goal.lead-requires
-lead-requires c = record { darts = linked_dart _ _ _ _ _ _ _ _ c.requires.darts c.loop-i.invariant.1; e_bound = c.wide-x.ensures.1 }
-
-pub loop-i-preserved : goal.loop-i-preserved
-loop-i-preserved c = (omega arith, link_step _ _ _ _ _ _ _ _ _ c.requires.darts c.loop-i-test.true c.wide-x.ensures.0 c.lead.ensures c.loop-i.invariant.1)
-
-pub lead-requires-2 : goal.lead-requires-2
-lead-requires-2 c = record { darts = linked_dart _ _ _ _ _ _ _ _ c.requires.darts c.loop-i.invariant.1; e_bound = c.requires.e_bound }
-
-pub shape_of-turns : goal.shape_of-turns
-shape_of-turns c = c.lead-2.auto.turns ∙ c.loop-i.invariant.1.size
+pub link_each-requires-clause-come : goal.link_each-requires-clause-come
+link_each-requires-clause-come c = (
+  c.args.path.now,
+  path_gives _ (YieldsList-from_map _ (λ x. x) (YieldsList-from_slice _ (cc)) (cc) (λ x r q k. search (rules, tests))),
+  c.requires.darts,
+)
 
 pub returns : goal.returns
-returns c = link_end _ _ _ _ _ _ _ _ c.loop-i-test.false c.lead-2.ensures c.loop-i.invariant.1
+returns c = c.link_each.ensures c.args.path.now (path_gives _ (YieldsList-from_map _ (λ x. x) (YieldsList-from_slice _ (cc)) (cc) (λ x r q k. search (rules, tests))))

@@ -21,9 +21,9 @@ pub loop-steps-preserved : goal.loop-steps-preserved
 unfolding leaves
 loop-steps-preserved c = (left_step _ _ _ _ _ c.loop-steps-test.true c.after-dart.ensures c.loop-steps.invariant.0, seek_no _ _ _ _ _ _ _ _ _ _ c.loop-steps-test.true c.after-dart.ensures c.if-ends-dart.false c.loop-steps.invariant.1)
 
-pub returns-after-loop-steps : goal.returns-after-loop-steps
-returns-after-loop-steps c = absurd (seek_none _ _ _ _ _ _ _ _ _ c.loop-steps-test.false c.loop-steps.invariant.1)
-
 pub returns-then-ends-dart : goal.returns-then-ends-dart
 unfolding leaves
 returns-then-ends-dart c = seek_yes _ _ _ _ _ _ _ _ _ c.loop-steps-test.true c.if-ends-dart.true c.loop-steps.invariant.1
+
+pub unreachable-requires : goal.unreachable-requires
+unreachable-requires c = seek_none _ _ _ _ _ _ _ _ _ c.loop-steps-test.false c.loop-steps.invariant.1

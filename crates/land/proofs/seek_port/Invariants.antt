@@ -1,5 +1,5 @@
 -- `land::seek_port` meets its contract. The loop's invariant: the darts left can be walked, none that was passed leaves the port, and some dart left does; what is left says what the whole says (`Seeking`).
--- So the loop is left at such a dart, and never for want of darts. The measure is the number of darts left.
+-- So the loop is left at such a dart, and never for want of darts.
 -- Assumes nothing.
 use Prim.Native.Nat.{◌-◌}
 use Rattle.land.specs.Walks.{land_from}
@@ -8,6 +8,3 @@ use Rattle.land.proofs.seek_port.Given as goal
 
 abbrev pub invariant-loop-steps : goal.invariant-loop-steps
 invariant-loop-steps l = Left l.turns l.n l.steps l.dart × Seeking l.ends l.p l.d (land_from l.turns l.n l.d) (land_from l.turns (l.n - l.steps) l.dart) l.last l.steps
-
-abbrev pub decreases-loop-steps : goal.decreases-loop-steps
-decreases-loop-steps l = l.n - l.steps

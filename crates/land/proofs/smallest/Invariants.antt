@@ -1,5 +1,5 @@
 -- `land::smallest` meets its contract. The loop's invariant: the darts left can be walked, and the smallest of all is the smallest of `low` and those.
--- At the start `low` is the first dart, which is there, and below the mark. The measure is the number of darts left.
+-- At the start `low` is the first dart, which is there, and below the mark.
 -- Assumes nothing.
 use Prim.Native.Nat.{◌-◌}
 use mathlib.Core.Path.{◌≡◌}
@@ -8,8 +8,5 @@ use Rattle.land.specs.Walks.{land_from}
 use Rattle.land.proofs.Walking.{Left}
 use Rattle.land.proofs.smallest.Given as goal
 
-abbrev pub invariant-loop-k : goal.invariant-loop-k
-invariant-loop-k l = Left l.turns l.n l.k l.dart × (least missing (land_from l.turns l.n l.d) ≡ least l.low (land_from l.turns (l.n - l.k) l.dart))
-
-abbrev pub decreases-loop-k : goal.decreases-loop-k
-decreases-loop-k l = l.n - l.k
+abbrev pub invariant-loop : goal.invariant-loop
+invariant-loop l = Left l.turns l.n l.counter l.dart × (least missing (land_from l.turns l.n l.d) ≡ least l.low (land_from l.turns (l.n - l.counter) l.dart))

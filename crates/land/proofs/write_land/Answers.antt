@@ -1,7 +1,7 @@
 -- `land::write_land` meets its contract. The loop's invariant: k darts stand in the buffer from `at` on, and those left of the land are those left to walk (`Writing`).
 -- Assumes nothing.
 use Prim.Native.Nat.{◌<◌}
-use mathlib.Core.Path.{◌≡◌}
+use mathlib.Core.Path.{◌≡◌, refl}
 use native.Mathlib.Omega.{arith}
 use lib.ListN.{length}
 use Rattle.land.proofs.Walking.{left_dart}
@@ -20,8 +20,8 @@ dart c h = let p = left_dart _ _ _ _ h c.loop-k.invariant.left in omega (arith, 
 pub loop-k-init : goal.loop-k-init
 loop-k-init c = write_start _ _ _ _ _ c.requires.darts
 
-pub narrow-requires : goal.narrow-requires
-narrow-requires c = omega (arith, dart (goal.at.narrow-requires c).At-loop-k c.loop-k-test.true)
+pub overflow_cast-out : goal.overflow_cast-out
+overflow_cast-out c = omega (arith, dart (goal.at.overflow_cast-out c).At-loop-k c.loop-k-test.true)
 
 pub bounds-out-at : goal.bounds-out-at
 bounds-out-at c = omega (arith, size (goal.at.bounds-out-at c).At-loop-k)
@@ -30,7 +30,7 @@ pub after-dart-requires : goal.after-dart-requires
 after-dart-requires c = left_dart _ _ _ _ c.loop-k-test.true c.loop-k.invariant.left
 
 pub loop-k-preserved : goal.loop-k-preserved
-loop-k-preserved c = write_step _ _ _ _ _ _ _ _ _ _ c.requires.n_in_bounds c.loop-k-test.true c.narrow.ensures c.after-dart.ensures c.loop-k.invariant
+loop-k-preserved c = write_step _ _ _ _ _ _ _ _ _ _ c.requires.n_in_bounds c.loop-k-test.true refl c.after-dart.ensures c.loop-k.invariant
 
 pub overflow_add-result : goal.overflow_add-result
 overflow_add-result c = omega (arith, c.loop-k.invariant.left.most)

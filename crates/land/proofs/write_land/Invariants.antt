@@ -1,12 +1,7 @@
 -- `land::write_land` meets its contract. The loop's invariant: k darts stand in the buffer from `at` on, and those left of the land are those left to walk (`Writing`).
--- The measure is the number of darts left.
 -- Assumes nothing.
-use Prim.Native.Nat.{◌-◌}
 use Rattle.land.proofs.Writing.{Writing}
 use Rattle.land.proofs.write_land.Given as goal
 
 abbrev pub invariant-loop-k : goal.invariant-loop-k
 invariant-loop-k l = Writing l.turns l.d l.n l.initial.out l.at l.out l.dart l.k
-
-abbrev pub decreases-loop-k : goal.decreases-loop-k
-decreases-loop-k l = l.n - l.k

@@ -6,7 +6,7 @@ use Rattle.lines.proofs.Rows.{Degree}
 use Rattle.lines.proofs.degree.Given as goal
 
 abbrev pub invariant-loop-d : goal.invariant-loop-d
-invariant-loop-d l = Degree l.ends l.p l.n l.d
+invariant-loop-d l = Degree l.net.ends.now l.p l.n l.d
 
 abbrev pub decreases-loop-d : goal.decreases-loop-d
-decreases-loop-d l = length l.ends - l.d
+decreases-loop-d l = length l.net.ends.now - l.d

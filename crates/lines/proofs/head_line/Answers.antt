@@ -1,24 +1,15 @@
--- `lines::head_line` meets its contract: the mark, three fields and a newline, one behind another.
+-- `lines::head_line` meets its contract: it is the line of the mark and three numbers.
 -- Assumes nothing.
-use mathlib.Core.Path.{refl}
-use Rattle.print.proofs.Putting.{begin, room, step, finish}
-use Rattle.lines.proofs.Cutting.{head_word, line_field, line_end}
+use mathlib.Core.List.{List}
+use mathlib.Core.Path.{sym, subst}
+use Prim.Native.Nat.{ℕ}
+use Rattle.print.specs.Puts.{Room}
+use Rattle.print.proofs.Putting.{wrote_as}
+use Rattle.lines.proofs.Cutting.{spell_head}
 use Rattle.lines.proofs.head_line.Goals as goal
 
-pub put_text-r-requires : goal.put_text-r-requires
-put_text-r-requires c = room c.requires (begin _ _ c.args.out.now) (head_word _ _)
-
-pub put_field-r-requires : goal.put_field-r-requires
-put_field-r-requires c = room c.requires (step c.requires (begin _ _ c.args.out.now) (head_word _ _) c.put_text-r.ensures) (line_field _ _)
-
-pub put_field-r-requires-2 : goal.put_field-r-requires-2
-put_field-r-requires-2 c = room c.requires (step c.requires (step c.requires (begin _ _ c.args.out.now) (head_word _ _) c.put_text-r.ensures) (line_field _ _) c.put_field-r.ensures) (line_field _ _)
-
-pub put_field-r-requires-3 : goal.put_field-r-requires-3
-put_field-r-requires-3 c = room c.requires (step c.requires (step c.requires (step c.requires (begin _ _ c.args.out.now) (head_word _ _) c.put_text-r.ensures) (line_field _ _) c.put_field-r.ensures) (line_field _ _) c.put_field-r-2.ensures) (line_field _ _)
-
-pub put_byte-requires : goal.put_byte-requires
-put_byte-requires c = room c.requires (step c.requires (step c.requires (step c.requires (step c.requires (begin _ _ c.args.out.now) (head_word _ _) c.put_text-r.ensures) (line_field _ _) c.put_field-r.ensures) (line_field _ _) c.put_field-r-2.ensures) (line_field _ _) c.put_field-r-3.ensures) line_end
+pub short_line-requires : goal.short_line-requires
+short_line-requires c = subst (λ (l : List ℕ). Room l c.args.out.now) (sym (spell_head _ _)) c.requires
 
 pub returns : goal.returns
-returns c = finish c.requires (step c.requires (step c.requires (step c.requires (step c.requires (step c.requires (begin _ _ c.args.out.now) (head_word _ _) c.put_text-r.ensures) (line_field _ _) c.put_field-r.ensures) (line_field _ _) c.put_field-r-2.ensures) (line_field _ _) c.put_field-r-3.ensures) line_end c.put_byte.ensures) refl
+returns c = wrote_as (spell_head _ _) c.short_line.ensures

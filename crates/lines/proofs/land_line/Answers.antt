@@ -1,21 +1,17 @@
--- `lines::land_line` meets its contract: the word, the number, the darts and a newline, one behind another.
+-- `lines::land_line` meets its contract: the word and the number, the darts and a newline, one behind another.
 -- Assumes nothing.
-use mathlib.Core.Path.{refl}
-use Rattle.print.proofs.Putting.{begin, room, step, finish, whole}
-use Rattle.lines.proofs.Cutting.{land_word, line_field, line_fields}
+use Rattle.print.proofs.Putting.{begin, room, step, last, whole}
+use Rattle.lines.proofs.Cutting.{land_begin, line_fields}
 use Rattle.lines.proofs.land_line.Goals as goal
 
-pub put_text-r-requires : goal.put_text-r-requires
-put_text-r-requires c = room c.requires.d_in_bounds (begin _ _ c.args.out.now) (land_word _)
+pub begin_line-requires : goal.begin_line-requires
+begin_line-requires c = room c.requires.room (begin _ c.args.out.now) (land_begin _ _)
 
-pub put_field-r-requires : goal.put_field-r-requires
-put_field-r-requires c = room c.requires.d_in_bounds (step c.requires.d_in_bounds (begin _ _ c.args.out.now) (land_word _) c.put_text-r.ensures) (line_field _ _)
+pub land-requires-clause-room : goal.land-requires-clause-room
+land-requires-clause-room c = room c.requires.room (step c.requires.room (begin _ c.args.out.now) (land_begin _ _) c.begin_line.ensures) (line_fields _)
 
-pub put_land-r-requires : goal.put_land-r-requires
-put_land-r-requires c = record { darts = c.requires.darts; d_in_bounds = room c.requires.d_in_bounds (step c.requires.d_in_bounds (step c.requires.d_in_bounds (begin _ _ c.args.out.now) (land_word _) c.put_text-r.ensures) (line_field _ _) c.put_field-r.ensures) (line_fields _) }
-
-pub put_byte-requires : goal.put_byte-requires
-put_byte-requires c = room c.requires.d_in_bounds (step c.requires.d_in_bounds (step c.requires.d_in_bounds (step c.requires.d_in_bounds (begin _ _ c.args.out.now) (land_word _) c.put_text-r.ensures) (line_field _ _) c.put_field-r.ensures) (line_fields _) c.put_land-r.ensures) (whole _)
+pub byte-requires : goal.byte-requires
+byte-requires c = room c.requires.room (step c.requires.room (step c.requires.room (begin _ c.args.out.now) (land_begin _ _) c.begin_line.ensures) (line_fields _) c.land.ensures) (whole _)
 
 pub returns : goal.returns
-returns c = finish c.requires.d_in_bounds (step c.requires.d_in_bounds (step c.requires.d_in_bounds (step c.requires.d_in_bounds (step c.requires.d_in_bounds (begin _ _ c.args.out.now) (land_word _) c.put_text-r.ensures) (line_field _ _) c.put_field-r.ensures) (line_fields _) c.put_land-r.ensures) (whole _) c.put_byte.ensures) refl
+returns c = last c.requires.room (step c.requires.room (step c.requires.room (begin _ c.args.out.now) (land_begin _ _) c.begin_line.ensures) (line_fields _) c.land.ensures) c.byte.ensures

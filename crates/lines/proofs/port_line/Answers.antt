@@ -1,21 +1,17 @@
--- `lines::port_line` meets its contract: the word, the number, the darts and a newline, one behind another.
+-- `lines::port_line` meets its contract: the word and the number, the darts and a newline, one behind another.
 -- Assumes nothing.
-use mathlib.Core.Path.{refl}
-use Rattle.print.proofs.Putting.{begin, room, step, finish, whole}
-use Rattle.lines.proofs.Cutting.{port_word, line_field, line_fields}
+use Rattle.print.proofs.Putting.{begin, room, step, last, whole}
+use Rattle.lines.proofs.Cutting.{port_begin, line_fields}
 use Rattle.lines.proofs.port_line.Goals as goal
 
-pub put_text-r-requires : goal.put_text-r-requires
-put_text-r-requires c = room c.requires.d_in_bounds (begin _ _ c.args.out.now) (port_word _)
+pub begin_line-requires : goal.begin_line-requires
+begin_line-requires c = room c.requires.room (begin _ c.args.out.now) (port_begin _ _)
 
-pub put_field-r-requires : goal.put_field-r-requires
-put_field-r-requires c = room c.requires.d_in_bounds (step c.requires.d_in_bounds (begin _ _ c.args.out.now) (port_word _) c.put_text-r.ensures) (line_field _ _)
+pub ring-requires-clause-room : goal.ring-requires-clause-room
+ring-requires-clause-room c = room c.requires.room (step c.requires.room (begin _ c.args.out.now) (port_begin _ _) c.begin_line.ensures) (line_fields _)
 
-pub put_ring-r-requires : goal.put_ring-r-requires
-put_ring-r-requires c = record { below = c.requires.below; d_in_bounds = room c.requires.d_in_bounds (step c.requires.d_in_bounds (step c.requires.d_in_bounds (begin _ _ c.args.out.now) (port_word _) c.put_text-r.ensures) (line_field _ _) c.put_field-r.ensures) (line_fields _) }
-
-pub put_byte-requires : goal.put_byte-requires
-put_byte-requires c = room c.requires.d_in_bounds (step c.requires.d_in_bounds (step c.requires.d_in_bounds (step c.requires.d_in_bounds (begin _ _ c.args.out.now) (port_word _) c.put_text-r.ensures) (line_field _ _) c.put_field-r.ensures) (line_fields _) c.put_ring-r.ensures) (whole _)
+pub byte-requires : goal.byte-requires
+byte-requires c = room c.requires.room (step c.requires.room (step c.requires.room (begin _ c.args.out.now) (port_begin _ _) c.begin_line.ensures) (line_fields _) c.ring.ensures) (whole _)
 
 pub returns : goal.returns
-returns c = finish c.requires.d_in_bounds (step c.requires.d_in_bounds (step c.requires.d_in_bounds (step c.requires.d_in_bounds (step c.requires.d_in_bounds (begin _ _ c.args.out.now) (port_word _) c.put_text-r.ensures) (line_field _ _) c.put_field-r.ensures) (line_fields _) c.put_ring-r.ensures) (whole _) c.put_byte.ensures) refl
+returns c = last c.requires.room (step c.requires.room (step c.requires.room (begin _ c.args.out.now) (port_begin _ _) c.begin_line.ensures) (line_fields _) c.ring.ensures) c.byte.ensures

@@ -2,14 +2,14 @@
 -- Assumes nothing.
 use mathlib.Core.List.{List}
 use mathlib.Core.Path.{sym, subst}
-use Prim.Native.Nat.{◌+◌, ◌≤◌, ℕ}
-use lib.ListN.{length}
-use Rattle.print.proofs.Putting.{put_as}
+use Prim.Native.Nat.{ℕ}
+use Rattle.print.specs.Puts.{Room}
+use Rattle.print.proofs.Putting.{wrote_as}
 use Rattle.lines.proofs.Cutting.{spell_refused}
 use Rattle.lines.proofs.refused_line.Goals as goal
 
-pub pair_line-requires : goal.pair_line-requires
-pair_line-requires c = subst (λ (l : List ℕ). c.args.at + length l ≤ length c.args.out.now) (sym (spell_refused _)) c.requires
+pub short_line-requires : goal.short_line-requires
+short_line-requires c = subst (λ (l : List ℕ). Room l c.args.out.now) (sym (spell_refused _)) c.requires
 
 pub returns : goal.returns
-returns c = put_as (spell_refused _) c.pair_line.ensures
+returns c = wrote_as (spell_refused _) c.short_line.ensures

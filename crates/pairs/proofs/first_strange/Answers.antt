@@ -1,17 +1,10 @@
--- `pairs::first_strange` meets its contract. The loop's invariant: the search of what is left, from channel k on, gives what the whole search gives. The measure is the number of channels left.
+-- `pairs::first_strange` meets its contract: `find` over the channels finds the first that has a port of v or more.
 -- Assumes nothing.
-use mathlib.Core.Path.{sym, ◌∙◌}
-use Rattle.laws.proofs.Seeking.{start, step, found, none}
+use Rattle.std.proofs.Common.{rules}
+use borrow.Author.Tests.{tests}
+use Rattle.rules.specs.Refusals.{strange}
+use Rattle.laws.proofs.Finding.{find_below}
 use Rattle.pairs.proofs.first_strange.Goals as goal
 
-pub loop-k-init : goal.loop-k-init
-loop-k-init c = start _ _
-
-pub returns-then-is_strange : goal.returns-then-is_strange
-returns-then-is_strange c = found _ _ _ c.loop-k.invariant c.loop-k-test.true (sym c.is_strange.ensures ∙ c.if-is_strange.true)
-
-pub loop-k-preserved : goal.loop-k-preserved
-loop-k-preserved c = step _ _ _ c.loop-k.invariant c.loop-k-test.true (sym c.is_strange.ensures ∙ c.if-is_strange.false)
-
 pub returns : goal.returns
-returns c = none _ _ _ c.loop-k.invariant c.loop-k-test.false
+returns c = find_below (strange c.args.v c.args.ends.now) _ _ _ c.find.result c.find.ensures.ran (λ x b q k. search (rules, tests))

@@ -1,19 +1,21 @@
 -- `pieces::first_apart` meets its contract: the flood from port 0, with no port marked before, leaves the ports unmarked that test 10 refuses.
 -- Assumes nothing.
-use mathlib.Core.Path.{◌∙◌}
-use Rattle.pieces.proofs.Cutting.{asks_bare, apart_found}
+use mathlib.Core.Path.{◌≡◌, ap, ◌∙◌}
+use mathlib.Core.Bool.{Bool, false}
+use mathlib.Core.List.{List}
+use lib.ListN.{length, replicate}
+use Rattle.std.proofs.Common.{rules}
+use Rattle.rules.specs.Lists.{at}
+use Rattle.reach.proofs.Around.{none_at}
+use Rattle.pieces.proofs.Cutting.{apart_found}
 use Rattle.pieces.proofs.first_apart.Goals as goal
 
-pub flood-requires : goal.flood-requires
-flood-requires c =
-    let w = asks_bare _ _ _ _ _ _ c.requires _ c.mark_all.ensures in
-    record { sized = w.0; tables = w.1.0; places = w.1.1.0; small = w.1.1.1.0; port = w.1.1.1.1.0; unmarked = w.1.1.1.1.1 }
-
-pub shape_of-marks : goal.shape_of-marks
-shape_of-marks c = c.flood.auto.marks ∙ c.mark_all.auto.marks
-
-pub shape_of-queue : goal.shape_of-queue
-shape_of-queue c = c.flood.auto.queue
+pub flood-requires-clause-unmarked : goal.flood-requires-clause-unmarked
+flood-requires-clause-unmarked c =
+    let bare : c.fill.new.self ≡ replicate (length c.args.marks.now) false = search rules in
+    ap (λ (m : List Bool). at m 0) bare ∙ none_at (length c.args.marks.now) 0
 
 pub returns : goal.returns
-returns c = apart_found _ _ _ _ _ _ c.mark_all.ensures c.flood.ensures.marked c.first_unmarked.ensures
+returns c =
+    let bare : c.fill.new.self ≡ replicate (length c.args.marks.now) false = search rules in
+    apart_found _ _ _ _ _ _ bare c.flood.ensures.marked c.first_unmarked.ensures

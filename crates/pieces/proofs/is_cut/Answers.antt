@@ -1,18 +1,23 @@
 -- `pieces::is_cut` meets its contract: the flood from the lowest other port, with port c alone marked before, leaves a port unmarked exactly where test 11 refuses c.
 -- Assumes nothing.
-use Rattle.pieces.proofs.Cutting.{asks_only, cut_found, cut_length}
+use mathlib.Core.Path.{◌≡◌, ◌∙◌}
+use mathlib.Core.Bool.{false, cond}
+use Prim.Native.Nat.{ℕ}
+use lib.Dec.{eqb}
+use lib.ListN.{length, replicate}
+use borrow.Author.Tests.{tests}
+use Rattle.std.proofs.Common.{rules}
+use Rattle.pieces.proofs.Cutting.{other_free, cut_found}
 use Rattle.pieces.proofs.is_cut.Goals as goal
 
-pub flood-requires : goal.flood-requires
-flood-requires c =
-    let w = asks_only _ _ _ _ _ _ c.requires.lent _ _ _ c.mark_all.ensures c.requires.port c.lowest_other-p.ensures in
-    record { sized = w.0; tables = w.1.0; places = w.1.1.0; small = w.1.1.1.0; port = w.1.1.1.1.0; unmarked = w.1.1.1.1.1 }
-
-pub shape_of-marks : goal.shape_of-marks
-shape_of-marks c = cut_length _ _ _ _ _ c.mark_all.ensures c.flood.ensures.marked
-
-pub shape_of-queue : goal.shape_of-queue
-shape_of-queue c = c.flood.auto.queue
+pub flood-requires-clause-unmarked : goal.flood-requires-clause-unmarked
+flood-requires-clause-unmarked c =
+    let bare : c.fill.new.self ≡ replicate (length c.args.marks.now) false = search rules in
+    let other : c.from-lowest_other.result ≡ cond {A = ℕ} (eqb c.args.c 0) 1 0 = search (rules, tests) in
+    other_free _ _ _ _ c.requires.port other bare
 
 pub returns : goal.returns
-returns c = cut_found _ _ _ _ _ _ _ _ c.requires.port c.lowest_other-p.ensures c.mark_all.ensures c.flood.ensures.marked c.first_unmarked.ensures
+returns c =
+    let bare : c.fill.new.self ≡ replicate (length c.args.marks.now) false = search rules in
+    let other : c.from-lowest_other.result ≡ cond {A = ℕ} (eqb c.args.c 0) 1 0 = search (rules, tests) in
+    c.is_some.ensures ∙ cut_found _ _ _ _ _ _ _ _ c.requires.port other bare c.flood.ensures.marked c.first_unmarked.ensures

@@ -1,12 +1,16 @@
--- `plate::ends_in` meets its contract: the part of the file that has the pairs is copied into an array of 0.
+-- `plate::ends_in` meets its contract: the pairs that the file has are copied into an array of 0.
 -- Assumes nothing.
 use mathlib.Core.Path.{sym, ap, ◌∙◌}
-use lib.ListN.{length}
+use lib.ListN.{length, take, drop}
+use Prim.Native.Nat.{◌-◌}
+use Rattle.rules.specs.Files.{plate_file, pairs_at, turns_at}
+use Rattle.rules.specs.Refusals.{pairs_part}
+use Rattle.plate.specs.Answers.{reading_of}
+use Rattle.plate.specs.State.{no_ends, copied, ends_had}
 use Rattle.plate.proofs.Laws.{length_copied}
-use Rattle.plate.proofs.Copies.{copied_ends}
 use Rattle.plate.proofs.ends_in.Goals as goal
 
 pub returns : goal.returns
+unfolding no_ends reading_of pairs_part ends_had
 returns c =
-    let whole = copied_ends _ _ c.counts-head.ensures.1 _ _ c.requires.long c.no_ends-ends.ensures.0 c.copy_ends.ensures in
-    (whole, c.no_ends-ends.ensures.1 ∙ sym (ap length c.copy_ends.ensures ∙ length_copied _ _))
+    (c.copy_ends.ensures ∙ ap (λ p. copied p no_ends) (c.pairs.ensures ∙ ap (λ n. take (turns_at plate_file n - pairs_at plate_file) (drop (pairs_at plate_file) c.args.file.now)) c.counts.ensures.1), sym (ap length c.copy_ends.ensures ∙ length_copied _ _))

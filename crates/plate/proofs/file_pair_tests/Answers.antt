@@ -12,7 +12,7 @@ use Rattle.plate.proofs.file_pair_tests.Goals.{After-ends_in-ends}
 
 -- the part of the array that is lent
 front : (c : After-ends_in-ends) → take (2 * c.counts-head.result.channels) c.ends_in-ends.result ≡ ends_in plate_file c.args.file.now
-front c = ends_front _ _ c.counts-head.ensures.1 _ c.requires.few c.ends_in-ends.ensures.0
+front c = ends_front _ _ c.counts-head.ensures.1 _ c.requires.few c.requires.long c.ends_in-ends.ensures.0
 
 pub slice_bounds-pair_tests-end : goal.slice_bounds-pair_tests-end
 slice_bounds-pair_tests-end c = omega (arith, ap length (front (goal.at.slice_bounds-pair_tests-end c).After-ends_in-ends), length_ends plate_file c.args.file.now, c.counts-head.ensures.1)

@@ -10,11 +10,6 @@ use Rattle.plate.proofs.Copies.{ends_front, piece_tests_as, tested_pairs, tested
 use Rattle.plate.proofs.file_piece_tests.Goals as goal
 use Rattle.plate.proofs.file_piece_tests.Goals.{After-ends_in-ends}
 
-pub ends_in-ends-requires : goal.ends_in-ends-requires
-ends_in-ends-requires c =
-    let w = tested_pairs _ c.requires in
-    record { long = w.0; few = w.1 }
-
 pub overflow_mul-darts : goal.overflow_mul-darts
 overflow_mul-darts c = omega (arith, c.counts-head.ensures.1, (tested_pairs c.args.file.now c.requires).1)
 
@@ -23,7 +18,7 @@ slice_bounds-ends-end c = omega (arith, c.counts-head.ensures.1, c.ends_in-ends.
 
 -- the part of the array that is lent
 front : (c : After-ends_in-ends) → take (2 * c.counts-head.result.channels) c.ends_in-ends.result ≡ ends_in plate_file c.args.file.now
-front c = ends_front _ _ c.counts-head.ensures.1 _ (tested_pairs _ c.requires).1 c.ends_in-ends.ensures.0
+front c = ends_front _ _ c.counts-head.ensures.1 _ (tested_pairs _ c.requires).1 (tested_pairs _ c.requires).0 c.ends_in-ends.ensures.0
 
 pub slice_bounds-piece_tests-end : goal.slice_bounds-piece_tests-end
 slice_bounds-piece_tests-end c = omega (arith, ap length (front (goal.at.slice_bounds-piece_tests-end c).After-ends_in-ends), length_ends plate_file c.args.file.now, c.counts-head.ensures.1)

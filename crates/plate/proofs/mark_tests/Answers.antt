@@ -18,10 +18,10 @@ pub returns-then-word_at-ne-VERSION : goal.returns-then-word_at-ne-VERSION
 returns-then-word_at-ne-VERSION c =
     c.refused-then-word_at-ne-VERSION.ensures
     ∙ sym (mark_3 _ _ (short_is _ _ ∙ le-ltb _ _ c.if-file-lt-PAIRS_AT.false) (sym c.has_mark.ensures ∙ (ap not c.if-not-has_mark.false))
-    (version_is _ _ ∙ ap not (ne_eqb _ _ (λ q. c.if-word_at-ne-VERSION.true (c.word_at.ensures.0 ∙ q)))))
+    (version_is _ _ ∙ ap not (ne_eqb _ _ (λ q. c.if-word_at-ne-VERSION.true (c.word_at.ensures ∙ q)))))
 
 pub returns : goal.returns
 returns c =
     sym passed_is
     ∙ sym (mark_passed _ _ (short_is _ _ ∙ le-ltb _ _ c.if-file-lt-PAIRS_AT.false) (sym c.has_mark.ensures ∙ (ap not c.if-not-has_mark.false))
-    (version_is _ _ ∙ ap not (eq-eqb _ _ (sym c.word_at.ensures.0 ∙ c.if-word_at-ne-VERSION.false))))
+    (version_is _ _ ∙ ap not (eq-eqb _ _ (sym c.word_at.ensures ∙ c.if-word_at-ne-VERSION.false))))

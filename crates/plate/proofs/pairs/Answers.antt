@@ -7,7 +7,7 @@ pub returns-in_default : goal.returns-in_default
 returns-in_default c = part_none c.args.file.now _ _ c.in_default.is
 
 pub returns-then-room-p : goal.returns-then-room-p
-returns-then-room-p c = part_rest c.args.file.now _ _ c.in-Plate.is _ c.smaller-start.ensures c.if-room-p.true
+returns-then-room-p c = part_rest c.args.file.now _ _ c.in-Ok.is _ c.min-start.ensures c.if-room-p.true
 
 pub returns : goal.returns
-returns c = part_front c.args.file.now _ _ c.in-Plate.is _ c.smaller-start.ensures
+returns c = part_front c.args.file.now _ _ c.in-Ok.is _ c.min-start.ensures

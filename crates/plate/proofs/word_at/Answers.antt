@@ -5,4 +5,4 @@ use Rattle.plate.proofs.Laws.{number_two}
 use Rattle.plate.proofs.word_at.Goals as goal
 
 pub returns : goal.returns
-returns c = (omega (arith, number_two c.args.i c.args.file.now), omega arith)
+returns c = omega (arith, number_two c.args.i c.args.file.now)

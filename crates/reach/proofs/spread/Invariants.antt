@@ -7,7 +7,7 @@ use Rattle.reach.proofs.Spreading.{Spread}
 use Rattle.reach.proofs.spread.Given as goal
 
 abbrev pub invariant-loop-d : goal.invariant-loop-d
-invariant-loop-d l = Spread l.ends l.play l.p l.initial.marks l.initial.queue l.n l.marks l.queue l.m l.d
+invariant-loop-d l = Spread l.net.ends.now l.net.play.now l.p l.initial.marks l.initial.queue l.n l.marks l.queue l.m l.d
 
 abbrev pub decreases-loop-d : goal.decreases-loop-d
-decreases-loop-d l = length l.ends - l.d
+decreases-loop-d l = length l.net.ends.now - l.d

@@ -1,34 +1,12 @@
--- `rings::first_away` meets its contract. The loop's invariant: the search from dart d on finds what the whole search finds. The measure is the number of darts left.
+-- `rings::first_away` meets its contract: `find` over the darts finds the first whose turn leaves another port.
 -- Assumes nothing.
-use Prim.Native.Nat.{◌<◌}
-use native.Mathlib.Omega.{arith}
-use lib.ListN.{length}
-use Rattle.laws.proofs.Seeking.{start, step, found, none}
-use Rattle.rings.proofs.Turns.{away_yes, away_no}
+use borrow.Author.Tests.{tests}
+use Rattle.std.proofs.Common.{rules}
+use Rattle.rules.specs.Terms.{leaves}
+use Rattle.rules.specs.Refusals.{away_turn}
+use Rattle.laws.proofs.Finding.{find_below}
 use Rattle.rings.proofs.first_away.Goals as goal
-use Rattle.rings.proofs.first_away.Goals.{After-wide-t}
-
-pub loop-d-init : goal.loop-d-init
-loop-d-init c = start _ _
-
-pub bounds-turns-d : goal.bounds-turns-d
-bounds-turns-d c = omega (arith, c.requires.size)
-
--- the turn is a dart
-turn_in : (c : After-wide-t) → c.wide-t.result < length c.args.ends.now
-turn_in c = omega (arith, c.wide-t.ensures.0, c.requires.dart c.loop-d.d (omega arith))
-
-pub offset_bounds-ends-t : goal.offset_bounds-ends-t
-offset_bounds-ends-t c = omega (arith, turn_in c)
-
-pub bounds-ends-t : goal.bounds-ends-t
-bounds-ends-t c = turn_in (goal.at.bounds-ends-t c).After-wide-t
-
-pub returns-then-ends-t : goal.returns-then-ends-t
-returns-then-ends-t c = found _ _ _ c.loop-d.invariant (omega arith) (away_yes _ _ _ _ c.wide-t.ensures.0 c.if-ends-t.true)
-
-pub loop-d-preserved : goal.loop-d-preserved
-loop-d-preserved c = step _ _ _ c.loop-d.invariant (omega arith) (away_no _ _ _ _ c.wide-t.ensures.0 c.if-ends-t.false)
 
 pub returns : goal.returns
-returns c = none _ _ _ c.loop-d.invariant (omega arith)
+unfolding away_turn leaves
+returns c = find_below (away_turn c.args.ends.now c.args.turns.now) _ _ _ c.find.result c.find.ensures.ran (λ x b q k. search (rules, tests))

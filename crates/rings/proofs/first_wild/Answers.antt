@@ -1,18 +1,11 @@
--- `rings::first_wild` meets its contract. The loop's invariant: the search from dart d on finds what the whole search finds. The measure is the number of darts left.
+-- `rings::first_wild` meets its contract: `find` over the darts finds the first whose turn is no dart.
 -- Assumes nothing.
-use native.Mathlib.Omega.{arith}
-use Rattle.laws.proofs.Seeking.{start, step, found, none}
-use Rattle.rings.proofs.Turns.{wild_yes, wild_no}
+use borrow.Author.Tests.{tests}
+use Rattle.std.proofs.Common.{rules}
+use Rattle.rules.specs.Refusals.{wild_turn}
+use Rattle.laws.proofs.Finding.{find_below}
 use Rattle.rings.proofs.first_wild.Goals as goal
 
-pub loop-d-init : goal.loop-d-init
-loop-d-init c = start _ _
-
-pub returns-then-ends-wide : goal.returns-then-ends-wide
-returns-then-ends-wide c = found _ _ _ c.loop-d.invariant (omega arith) (wild_yes _ _ _ _ c.wide.ensures.0 c.if-ends-wide.true)
-
-pub loop-d-preserved : goal.loop-d-preserved
-loop-d-preserved c = step _ _ _ c.loop-d.invariant (omega arith) (wild_no _ _ _ _ c.wide.ensures.0 c.if-ends-wide.false)
-
 pub returns : goal.returns
-returns c = none _ _ _ c.loop-d.invariant (omega arith)
+unfolding wild_turn
+returns c = find_below (wild_turn c.args.ends.now c.args.turns.now) _ _ _ c.find.result c.find.ensures.ran (λ x b q k. search (rules, tests))

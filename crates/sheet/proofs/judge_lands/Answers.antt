@@ -5,8 +5,7 @@ use Prim.Native.Nat.{◌*◌}
 use native.Mathlib.Omega.{arith}
 use lib.ListN.{take}
 use Rattle.rules.specs.Files.{sheet_file, turns_in}
-use Rattle.rings.proofs.Tables.{front_length}
-use Rattle.sheet.proofs.Parts.{Known, known, lent_part, place_in}
+use Rattle.sheet.proofs.Parts.{Known, known, lent_part, front_in}
 use Rattle.sheet.proofs.Judging.{lands_ready, lands_few, lands_judged}
 use Rattle.sheet.proofs.judge_lands.Goals as goal
 use Rattle.sheet.proofs.judge_lands.Goals.{After-counts-head, After-turns_in-turns}
@@ -18,14 +17,8 @@ sized c = known _ _ _ c.requires.tested c.counts-head.ensures.0 c.counts-head.en
 turns : (c : After-turns_in-turns) → (Known c.args.file.now c.counts-head.result.ports c.counts-head.result.channels) → take (2 * c.counts-head.result.channels) c.turns_in-turns.result ≡ turns_in sheet_file c.args.file.now
 turns c sized = lent_part _ _ _ sized _ _ c.turns_in-turns.ensures.0
 
-pub overflow_mul-n : goal.overflow_mul-n
-overflow_mul-n c = omega (arith, (sized (goal.at.overflow_mul-n c).After-counts-head).few)
-
-pub slice_bounds-turns-end : goal.slice_bounds-turns-end
-slice_bounds-turns-end c = place_in _ _ _ (sized (goal.at.slice_bounds-turns-end c).After-counts-head) c.turns_in-turns.result c.turns_in-turns.ensures.1
-
 pub slice_bounds-list_lands-end : goal.slice_bounds-list_lands-end
-slice_bounds-list_lands-end c = front_length _ _ (place_in _ _ _ (sized (goal.at.slice_bounds-list_lands-end c).After-counts-head) c.turns_in-turns.result c.turns_in-turns.ensures.1)
+slice_bounds-list_lands-end c = front_in _ _ _ (sized (goal.at.slice_bounds-list_lands-end c).After-counts-head) _ c.turns_in-turns.ensures.1
 
 pub list_lands-lands-requires : goal.list_lands-lands-requires
 list_lands-lands-requires c =
@@ -37,9 +30,6 @@ pub overflow_add-flat : goal.overflow_add-flat
 overflow_add-flat c =
     let was = goal.at.overflow_add-flat c in
     omega (arith, lands_few _ _ _ (sized was.After-counts-head) _ (turns was.After-turns_in-turns (sized was.After-counts-head)) c.requires.tested c.requires.turned _ c.list_lands-lands.ensures.number, (sized was.After-counts-head).few, (sized was.After-counts-head).few_ports)
-
-pub overflow_add-flat-2 : goal.overflow_add-flat-2
-overflow_add-flat-2 c = omega (arith, (sized (goal.at.overflow_add-flat-2 c).After-counts-head).few)
 
 pub returns : goal.returns
 returns c =

@@ -10,10 +10,11 @@ use Rattle.split.proofs.stretches_at.Goals.{Start}
 corners : (c : Start) → Corners c.args.ends.now c.args.turns.now (land_from c.args.turns.now c.args.n c.args.d) c.args.x c.args.y
 corners c = record { land = c.requires.land; apart = c.requires.x_nonzero; visits_x = c.requires.t.0; visits_y = c.requires.t.1 }
 
-pub seek_port-at_y-requires : goal.seek_port-at_y-requires
-seek_port-at_y-requires c =
-    let f = c.seek_port-at_x.ensures in
-    record { darts = seek_darts _ _ _ _ _ _ (corners (goal.at.seek_port-at_y-requires c).Start) c.requires.darts _ f; ends_len = c.requires.ends_len; t = seek_visits _ _ _ _ _ _ (corners (goal.at.seek_port-at_y-requires c).Start) c.requires.darts _ f }
+pub seek_port-at_y-requires-clause-darts : goal.seek_port-at_y-requires-clause-darts
+seek_port-at_y-requires-clause-darts c = seek_darts _ _ _ _ _ _ (corners (goal.at.seek_port-at_y-requires-clause-darts c).Start) c.requires.darts _ c.seek_port-at_x.ensures
+
+pub seek_port-at_y-requires-clause-t : goal.seek_port-at_y-requires-clause-t
+seek_port-at_y-requires-clause-t c = seek_visits _ _ _ _ _ _ (corners (goal.at.seek_port-at_y-requires-clause-t c).Start) c.requires.darts _ c.seek_port-at_x.ensures
 
 pub overflow_sub-size : goal.overflow_sub-size
 overflow_sub-size c = omega (arith, (found_size _ _ _ _ _ _ (corners (goal.at.overflow_sub-size c).Start) c.requires.darts _ c.seek_port-at_x.ensures _ c.seek_port-at_y.ensures).2)

@@ -1,4 +1,4 @@
--- `step::forget` meets its contract. The invariant: the numbers before j are forgotten as they should be, and the others stand. The measure is what is left of them.
+-- `step::forget` meets its contract: a number is made 0 where its channel is flagged, and stands otherwise (Forgetting).
 -- Assumes nothing.
 use mathlib.Core.Logic.{inl, inr}
 use native.Mathlib.Omega.{arith}
@@ -10,21 +10,9 @@ use Rattle.step.proofs.forget.Goals.{then-own-j, else-own-j}
 pub loop-j-init : goal.loop-j-init
 loop-j-init c = forgot_start _ _
 
-pub bounds-own-j : goal.bounds-own-j
-bounds-own-j c = omega (arith, c.loop-j.invariant.size, c.requires)
-
-pub offset_bounds-bars-j : goal.offset_bounds-bars-j
-offset_bounds-bars-j c = omega (arith, c.loop-j.invariant.size)
-
-pub loop-j-smaller : goal.loop-j-smaller
-loop-j-smaller c = omega (arith, c.loop-j.invariant.size)
-
 pub loop-j-preserved : goal.loop-j-preserved
 unfolding at
 loop-j-preserved c = forgot_step _ _ _ _ _ c.loop-j.invariant (omega (arith, c.loop-j.invariant.size)) (elim c.if-own-j.branch [ then-own-j w ↦ inl (w.if-own-j.true, w.bars-is) | else-own-j w ↦ inr (w.if-own-j.false, w.bars-is) ])
-
-pub shape_of-bars : goal.shape_of-bars
-shape_of-bars c = c.loop-j.invariant.size
 
 pub returns : goal.returns
 returns c = forgot_end _ _ _ _ c.loop-j.invariant (omega (arith, c.loop-j.invariant.size))

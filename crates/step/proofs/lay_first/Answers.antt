@@ -1,125 +1,95 @@
--- `step::lay_first` meets its contract: the path found is the way back of the first cycle (Crossing), so that the cycle can be laid, and the turns, the lands and the story are then those of the first state (Entering).
+-- `step::lay_first` meets its contract: the lowest channel in play is found (Playing), the path found is the way back of the first cycle (Crossing), so that the cycle can be laid, and the turns, the lands and the story are then those of the first state (Entering).
 -- Assumes nothing.
 use mathlib.Core.Path.{◌≡◌, refl, sym, ap, ◌∙◌, subst}
-use mathlib.Core.Bool.{true}
-use mathlib.Core.List.{◌∷◌}
-use Prim.Native.Nat.{ℕ, ◌+◌, ◌-◌, ◌*◌, ◌<◌, ◌≤◌}
+use mathlib.Core.Bool.{Bool, true, false}
+use mathlib.Core.List.{List, ◌∷◌}
+use Prim.Native.Nat.{ℕ, ◌+◌, ◌-◌, ◌*◌, ◌≤◌}
 use native.Mathlib.Omega.{arith}
-use lib.ListN.{length, set, replicate, length-set}
+use lib.ListN.{length, get_or, set, replicate, length-set}
 use lib.Dec.{T}
-use borrow.Rule.Slice.PartMut.{put_mid, same_len_mid}
+use borrow.Rule.Slice.PartMut.{same_len_mid}
+use borrow.Author.Tests.{tests}
+use Rattle.std.proofs.Common.{rules}
+use Rattle.std.proofs.lemmas.Iterator.{YieldsList-from_slice}
+use Rattle.std.proofs.lemmas.Iterator.Search.{position_from_yields_List}
+use Rattle.std.specs.declared.option.Option.TheVariants.{Some}
 use Rattle.rules.specs.Lists.{at}
-use Rattle.rules.specs.Terms.{leaves, enters}
 use Rattle.rules.specs.Laying.{cycle, first_channel}
 use Rattle.way.specs.Marks.{path_over}
-use Rattle.laws.proofs.Sets.{at_lt}
 use Rattle.laws.proofs.Trails.{second_end}
-use Rattle.step.proofs.Writing.{part_long, front_room}
+use Rattle.step.proofs.Writing.{front_room}
+use Rattle.step.proofs.Playing.{first_on}
 use Rattle.step.proofs.Telling.{first_in, cycle_short}
-use Rattle.step.proofs.Crossing.{end_first, round_is, ask_round}
+use Rattle.step.proofs.Crossing.{end_first, round_is, round_ports, round_reaches}
 use Rattle.step.proofs.Entering.{ask_begin, laid_cycle}
 use Rattle.step.proofs.lay_first.Goals as goal
-use Rattle.step.proofs.lay_first.Goals.{After-first_channel-c, After-mark_all, After-path-n}
+use Rattle.step.proofs.lay_first.Goals.{After-position, After-unwrap-c, After-fill, After-path_by-n}
 
--- the channel found is the first one
-same : (c : After-first_channel-c) → c.first_channel-c.result ≡ first_channel (length c.args.first.now) c.args.ends.now c.args.play.now
+-- some channel is in play, and the first one is found
+found : (c : After-position) → c.position.result ≡ Some (first_channel (length c.args.net.first.now) c.args.net.ends.now c.args.net.play.now)
 unfolding first_channel
-same c = c.first_channel-c.ensures
+found c = first_on c.args.net.play.now c.position.result
+    (position_from_yields_List (λ b. b) _ _ c.position.result c.position.ensures.ran (YieldsList-from_slice c.args.net.play.now cc) (λ x b q k. search (rules, tests)))
+    (first_in _ _ _ c.requires.plan)
 
--- it is in play, and has two darts
-channel : (c : After-first_channel-c) → 2 * c.first_channel-c.result + 1 < length c.args.ends.now
-channel c = omega (arith, same c, at_lt _ _ (first_in _ _ _ c.requires.plan), c.requires.plan.layable.size2)
+same : (c : After-unwrap-c) → c.position.result ≡ Some (first_channel (length c.args.net.first.now) c.args.net.ends.now c.args.net.play.now) → c.unwrap-c.result ≡ first_channel (length c.args.net.first.now) c.args.net.ends.now c.args.net.play.now
+same c e = cc
+
+pub unwrap-c-requires : goal.unwrap-c-requires
+unwrap-c-requires c = rw (found (goal.at.unwrap-c-requires c).After-position) refl
 
 -- it is in play
-playing : (c : After-first_channel-c) → T (at c.args.play.now c.first_channel-c.result)
-playing c = subst (λ (k : ℕ). T (at c.args.play.now k)) (sym (same c)) (first_in _ _ _ c.requires.plan)
+playing : (c : After-unwrap-c) → c.unwrap-c.result ≡ first_channel (length c.args.net.first.now) c.args.net.ends.now c.args.net.play.now → T (at c.args.net.play.now c.unwrap-c.result)
+playing c e = subst (λ (k : ℕ). T (at c.args.net.play.now k)) (sym e) (first_in _ _ _ c.requires.plan)
 
--- before the path is found: every port is free, and the path goes from the channel's second end to its first
-all_free : (c : After-mark_all) → c.mark_all.new.marks ≡ replicate (length c.args.first.now) true
-all_free c = c.mark_all.ensures ∙ ap (λ (m : ℕ). replicate m true) c.requires.desk.1
+-- before the path is found: all channels but that one may be used, every port is free, and the path goes from the channel's second end to its first
+used : (c : After-fill) → set c.copy_from_slice.new.self c.unwrap-c.result false ≡ set c.args.net.play.now c.unwrap-c.result false
+used c = ap (λ (s : List Bool). set s c.unwrap-c.result false) c.copy_from_slice.ensures.after
 
-second : (c : After-mark_all) → c.wide-b.result ≡ enters c.args.ends.now (2 * c.first_channel-c.result)
-second c = c.wide-b.ensures.0 ∙ second_end c.args.ends.now c.first_channel-c.result
+all_free : (c : After-fill) → c.fill.new.self ≡ replicate (length c.args.net.first.now) true
+all_free c = let e : c.fill.new.self ≡ replicate (length c.args.desk.now.inside.now) true = search rules in e ∙ ap (λ (m : ℕ). replicate m true) c.requires.desk.1
 
-firstly : (c : After-mark_all) → c.wide-a.result ≡ leaves c.args.ends.now (2 * c.first_channel-c.result)
-firstly c = c.wide-a.ensures.0 ∙ end_first c.args.ends.now c.first_channel-c.result
+-- the path closes the first cycle
+cyclic : (c : After-path_by-n) → c.unwrap-c.result ≡ first_channel (length c.args.net.first.now) c.args.net.ends.now c.args.net.play.now
+    → set c.copy_from_slice.new.self c.unwrap-c.result false ≡ set c.args.net.play.now c.unwrap-c.result false → c.fill.new.self ≡ replicate (length c.args.net.first.now) true
+    → 2 * c.unwrap-c.result ∷ path_over c.args.net.ends.now (set c.copy_from_slice.new.self c.unwrap-c.result false) c.fill.new.self (get_or c.args.net.ends.now (2 * c.unwrap-c.result + 1) 0) (get_or c.args.net.ends.now (2 * c.unwrap-c.result) 0)
+    ≡ cycle (length c.args.net.first.now) c.args.net.ends.now c.args.net.play.now (first_channel (length c.args.net.first.now) c.args.net.ends.now c.args.net.play.now)
+cyclic c e o f =
+    let p : T (at c.args.net.play.now c.unwrap-c.result) = subst (λ (k : ℕ). T (at c.args.net.play.now k)) (sym e) (first_in _ _ _ c.requires.plan) in
+    round_is _ _ _ c.requires.plan c.unwrap-c.result p _ _ (second_end c.args.net.ends.now c.unwrap-c.result) (end_first c.args.net.ends.now c.unwrap-c.result) _ _ o f
+    ∙ ap (cycle (length c.args.net.first.now) c.args.net.ends.now c.args.net.play.now) e
 
-cyclic : (c : After-path-n) → (c.first_channel-c.result ≡ first_channel (length c.args.first.now) c.args.ends.now c.args.play.now) → (T (at c.args.play.now c.first_channel-c.result)) → (c.wide-b.result ≡ enters c.args.ends.now (2 * c.first_channel-c.result)) → (c.wide-a.result ≡ leaves c.args.ends.now (2 * c.first_channel-c.result)) → (c.mark_all.new.marks ≡ replicate (length c.args.first.now) true) → (d : ℕ) → d ≡ 2 * c.first_channel-c.result → d ∷ (path_over c.args.ends.now c.all_but.new.own c.mark_all.new.marks c.wide-b.result c.wide-a.result) ≡ cycle (length c.args.first.now) c.args.ends.now c.args.play.now (first_channel (length c.args.first.now) c.args.ends.now c.args.play.now)
-unfolding first_channel
-cyclic c same playing second firstly all_free d e =
-    ap (λ (k : ℕ). k ∷ (path_over c.args.ends.now c.all_but.new.own c.mark_all.new.marks c.wide-b.result c.wide-a.result)) e
-    ∙ round_is _ _ _ c.requires.plan c.first_channel-c.result playing _ _ second firstly _ _ c.all_but.ensures all_free
-    ∙ ap (cycle (length c.args.first.now) c.args.ends.now c.args.play.now) same
+-- the path fits the story
+wide_enough : (c : After-path_by-n) → 2 + length (path_over c.args.net.ends.now (set c.copy_from_slice.new.self c.unwrap-c.result false) c.fill.new.self (get_or c.args.net.ends.now (2 * c.unwrap-c.result + 1) 0) (get_or c.args.net.ends.now (2 * c.unwrap-c.result) 0)) ≤ length c.args.story.now
+wide_enough c = front_room c.args.story.now _ _ _ 2 c.path_by-n.ensures.darts c.path_by-n.auto.out (omega (arith, c.requires.room))
 
--- the cycle is short, and fits the story
-short : (c : After-path-n) → (c.first_channel-c.result ≡ first_channel (length c.args.first.now) c.args.ends.now c.args.play.now) → (T (at c.args.play.now c.first_channel-c.result)) → (c.wide-b.result ≡ enters c.args.ends.now (2 * c.first_channel-c.result)) → (c.wide-a.result ≡ leaves c.args.ends.now (2 * c.first_channel-c.result)) → (c.mark_all.new.marks ≡ replicate (length c.args.first.now) true) → c.path-n.result + 1 < 65536
-short c same playing second firstly all_free =
-    omega (arith, c.path-n.ensures.number, ap length (cyclic c same playing second firstly all_free _ refl), cycle_short _ _ _ c.requires.plan, c.requires.plan.layable.size2, c.requires.plan.layable.few)
+pub path_by-n-requires-clause-ports : goal.path_by-n-requires-clause-ports
+path_by-n-requires-clause-ports c =
+    let was = goal.at.path_by-n-requires-clause-ports c in
+    let e = same was.After-unwrap-c (found was.After-position) in
+    round_ports _ _ _ c.requires.plan c.unwrap-c.result (playing was.After-unwrap-c e) _ _ (second_end c.args.net.ends.now c.unwrap-c.result) (end_first c.args.net.ends.now c.unwrap-c.result) _ (all_free was.After-fill)
 
-wide_enough : (c : After-path-n) → 2 + length (path_over c.args.ends.now c.all_but.new.own c.mark_all.new.marks c.wide-b.result c.wide-a.result) ≤ length c.args.story.now
-wide_enough c = front_room c.args.story.now (path_over c.args.ends.now c.all_but.new.own c.mark_all.new.marks c.wide-b.result c.wide-a.result) _ _ 2 c.path-n.ensures.darts c.path-n.auto.out (omega (arith, c.requires.room))
+pub path_by-n-requires-clause-reached : goal.path_by-n-requires-clause-reached
+path_by-n-requires-clause-reached c =
+    let was = goal.at.path_by-n-requires-clause-reached c in
+    let e = same was.After-unwrap-c (found was.After-position) in
+    round_reaches _ _ _ c.requires.plan c.unwrap-c.result (playing was.After-unwrap-c e) _ _ (second_end c.args.net.ends.now c.unwrap-c.result) (end_first c.args.net.ends.now c.unwrap-c.result) _ _ (used was.After-fill) (all_free was.After-fill)
 
-long : (c : After-path-n) → length (put_mid 2 (length c.args.story.now - 2) c.args.story.now c.path-n.new.out) ≡ length c.args.story.now
-long c = same_len_mid {X = ℕ} 2 (length c.args.story.now - 2) c.args.story.now c.path-n.new.out c.path-n.auto.out
+pub overflow_cast-story : goal.overflow_cast-story
+overflow_cast-story c =
+    let was = goal.at.overflow_cast-story c in
+    let e = same was.After-unwrap-c (found was.After-position) in
+    omega (arith, c.path_by-n.ensures.number, ap length (cyclic was.After-path_by-n e (used was.After-fill) (all_free was.After-fill)), cycle_short _ _ _ c.requires.plan, c.requires.plan.layable.size2, c.requires.plan.layable.few)
 
-pub overflow_mul-d : goal.overflow_mul-d
-overflow_mul-d c = omega (arith, channel c)
+pub begin-requires-clause-cyclic : goal.begin-requires-clause-cyclic
+begin-requires-clause-cyclic c =
+    let was = goal.at.begin-requires-clause-cyclic c in
+    let e = same was.After-unwrap-c (found was.After-position) in
+    ask_begin _ _ _ c.requires.plan _ _ _ c.args.story.now _ c.path_by-n.new.out c.path_by-n.result _ _ (cyclic was.After-path_by-n e (used was.After-fill) (all_free was.After-fill)) c.path_by-n.ensures.number refl c.path_by-n.ensures.darts (wide_enough was.After-path_by-n) c.requires.turns c.requires.starts c.requires.sizes c.requires.room
 
-pub offset_bounds-ends-d : goal.offset_bounds-ends-d
-offset_bounds-ends-d c = omega (arith, channel c)
-
-pub bounds-ends-d : goal.bounds-ends-d
-bounds-ends-d c = omega (arith, channel (goal.at.bounds-ends-d c).After-first_channel-c)
-
-pub overflow_add-d : goal.overflow_add-d
-overflow_add-d c = omega (arith, channel (goal.at.overflow_add-d c).After-first_channel-c)
-
-pub offset_bounds-ends-d-2 : goal.offset_bounds-ends-d-2
-offset_bounds-ends-d-2 c = omega (arith, channel (goal.at.offset_bounds-ends-d-2 c).After-first_channel-c)
-
-pub bounds-ends-d-2 : goal.bounds-ends-d-2
-bounds-ends-d-2 c = omega (arith, channel (goal.at.bounds-ends-d-2 c).After-first_channel-c)
-
-pub all_but-requires : goal.all_but-requires
-all_but-requires c = record { own = c.requires.desk.2; channel = omega (arith, same (goal.at.all_but-requires c).After-first_channel-c, at_lt _ _ (first_in _ _ _ c.requires.plan)) }
-
-pub path-n-requires : goal.path-n-requires
-path-n-requires c =
-    let was = goal.at.path-n-requires c in
-    let w = ask_round _ _ _ c.requires.plan c.first_channel-c.result (playing was.After-first_channel-c) _ _ c.requires.tables _ _ c.all_but.ensures (all_free was.After-mark_all) _ _ (second was.After-mark_all) (firstly was.After-mark_all) _ _ c.requires.desk.0 (part_long c.args.story.now 2 _ (omega (arith, c.requires.room))) in
-    record { sizes = w.0; tables = w.1.0; marks = w.1.1.0; room = w.1.1.1.0; ports = w.1.1.1.1.0; reached = w.1.1.1.1.1 }
-
-pub overflow_add-n : goal.overflow_add-n
-overflow_add-n c =
-    let was = goal.at.overflow_add-n c in
-    omega (arith, short was.After-path-n (same was.After-first_channel-c) (playing was.After-first_channel-c) (second was.After-mark_all) (firstly was.After-mark_all) (all_free was.After-mark_all))
-
-pub narrow-requires : goal.narrow-requires
-narrow-requires c =
-    let was = goal.at.narrow-requires c in
-    omega (arith, short was.After-path-n (same was.After-first_channel-c) (playing was.After-first_channel-c) (second was.After-mark_all) (firstly was.After-mark_all) (all_free was.After-mark_all))
-
-pub bounds-story-0 : goal.bounds-story-0
-bounds-story-0 c = omega (arith, long (goal.at.bounds-story-0 c).After-path-n, wide_enough (goal.at.bounds-story-0 c).After-path-n)
-
-pub narrow-requires-2 : goal.narrow-requires-2
-narrow-requires-2 c = omega (arith, channel (goal.at.narrow-requires-2 c).After-first_channel-c, c.requires.plan.layable.few)
-
-pub bounds-story-1 : goal.bounds-story-1
-bounds-story-1 c = simp length-set (omega (arith, long (goal.at.bounds-story-1 c).After-path-n, wide_enough (goal.at.bounds-story-1 c).After-path-n))
-
-pub slice_bounds-begin-end : goal.slice_bounds-begin-end
-slice_bounds-begin-end c = simp length-set (omega (arith, long (goal.at.slice_bounds-begin-end c).After-path-n, wide_enough (goal.at.slice_bounds-begin-end c).After-path-n))
-
-pub begin-requires : goal.begin-requires
-begin-requires c =
-    let was = goal.at.begin-requires c in
-    record { cyclic = ask_begin _ _ _ c.requires.plan _ _ _ c.args.story.now (path_over c.args.ends.now c.all_but.new.own c.mark_all.new.marks c.wide-b.result c.wide-a.result) c.path-n.new.out c.path-n.result c.narrow-2.result c.narrow.result (cyclic was.After-path-n (same was.After-first_channel-c) (playing was.After-first_channel-c) (second was.After-mark_all) (firstly was.After-mark_all) (all_free was.After-mark_all) _ c.narrow-2.ensures) c.path-n.ensures.number c.narrow.ensures c.path-n.ensures.darts (wide_enough was.After-path-n) c.requires.turns c.requires.starts c.requires.sizes c.requires.room; mark_value = refl }
-
-pub shape_of-story : goal.shape_of-story
-shape_of-story c = simp length-set (long (goal.at.shape_of-story c).After-path-n)
-
-pub returns : goal.returns
-returns c =
-    let was = goal.at.returns c in
-    laid_cycle _ _ _ c.requires.plan _ _ _ c.args.story.now (path_over c.args.ends.now c.all_but.new.own c.mark_all.new.marks c.wide-b.result c.wide-a.result) c.path-n.new.out c.path-n.result c.narrow-2.result c.narrow.result (cyclic was.After-path-n (same was.After-first_channel-c) (playing was.After-first_channel-c) (second was.After-mark_all) (firstly was.After-mark_all) (all_free was.After-mark_all) _ c.narrow-2.ensures) c.path-n.ensures.number c.narrow.ensures c.path-n.ensures.darts (wide_enough was.After-path-n) c.requires.turns c.requires.starts c.requires.sizes c.requires.room _ _ _ (set (set (put_mid 2 (length c.args.story.now - 2) c.args.story.now c.path-n.new.out) 0 c.narrow.result) 1 c.narrow-2.result) c.begin.ensures refl (simp length-set (long was.After-path-n))
+pub returns-clause-standing : goal.returns-clause-standing
+returns-clause-standing c =
+    let was = goal.at.returns-clause-standing c in
+    let e = same was.After-unwrap-c (found was.After-position) in
+    let long = same_len_mid {X = ℕ} 2 (length c.args.story.now - 2) c.args.story.now c.path_by-n.new.out c.path_by-n.auto.out in
+    rw c.begin.ensures.count (laid_cycle _ _ _ c.requires.plan _ _ _ c.args.story.now _ c.path_by-n.new.out c.path_by-n.result _ _ (cyclic was.After-path_by-n e (used was.After-fill) (all_free was.After-fill)) c.path_by-n.ensures.number refl c.path_by-n.ensures.darts (wide_enough was.After-path_by-n) c.requires.turns c.requires.starts c.requires.sizes c.requires.room _ _ _ _ c.begin.ensures.begun refl (simp length-set long))

@@ -1,39 +1,65 @@
--- `text::list_pairs` meets its contract: the part of the array that is lent has the pairs, each of its channels is in play, and the arrays are long enough for any plate within the limits.
+-- `text::list_pairs` meets its contract: the parts of the arrays that are lent have the pairs and every channel in play, what is laid in them can be listed, and that is the plate's listing (Calling).
 -- Assumes nothing.
-use mathlib.Core.Path.{◌≡◌, sym, ap, ◌∙◌}
+use Rattle.std.proofs.Common.{rules}
+use mathlib.Core.Path.{◌≡◌, refl}
 use mathlib.Core.Bool.{true}
-use Prim.Native.Nat.{◌/◌}
-use native.Mathlib.Omega.{arith}
-use lib.ListN.{length, take, replicate, length-replicate}
-use Rattle.print.proofs.Putting.{put_as}
-use Rattle.desk.proofs.Plans.{pairs_as, play_as}
-use Rattle.text.proofs.Calling.{pairs_few, ask_turns, same_lines}
+use mathlib.Core.List.{List}
+use Prim.Native.Nat.{ℕ, ◌/◌}
+use lib.ListN.{length, take, replicate}
+use lib.Seq.{length-take-le}
+use Rattle.rules.specs.Files.{limits1}
+use Rattle.laws.proofs.Lists.{take_replicate}
+use Rattle.desk.proofs.Plans.{pairs_as}
+use Rattle.text.specs.Calls.{lines_of, Filed}
+use Rattle.text.proofs.Calling.{filed_plan, ask_net, ask_walkable, ask_held, ask_room, listed_of, pairs_few, filed_as, same_lines}
 use Rattle.text.proofs.list_pairs.Goals as goal
-use Rattle.text.proofs.list_pairs.Goals.{After-all_channels-play, After-copy_ends}
+use Rattle.text.proofs.list_pairs.Goals.{After-copy_ends}
 
--- what is lent of the two arrays
-ends_so : (c : After-copy_ends) → take (length c.args.pairs.now) c.copy_ends.new.ends ≡ c.args.pairs.now
-ends_so c = pairs_as _ _ _ c.no_ends-ends.ensures.1 (pairs_few _ _ c.requires.filed).0 c.copy_ends.ensures
+-- what is lent of the arrays
+abbrev lent : ℕ → List ℕ
+lent v = take v (replicate limits1.most_ports 0)
 
-play_so : (c : After-all_channels-play) → take (length c.args.pairs.now / 2) c.all_channels-play.result ≡ replicate (length c.args.pairs.now / 2) true
-play_so c = play_as _ _ (pairs_few _ _ c.requires.filed).1 c.all_channels-play.ensures.0
+ports : (c : After-copy_ends) → length (lent c.args.v) ≡ c.args.v
+ports c = length-take-le _ _ c.requires.limits.0
 
-pub slice_bounds-ends-end : goal.slice_bounds-ends-end
-slice_bounds-ends-end c = omega (arith, (pairs_few _ _ c.requires.filed).0, c.copy_ends.auto.ends, c.no_ends-ends.ensures.1)
+ends : (c : After-copy_ends) → take (length c.args.pairs.now) c.copy_ends.new.ends ≡ c.args.pairs.now
+ends c = pairs_as _ _ _ refl (pairs_few _ _ c.requires.filed).0 c.copy_ends.ensures
 
-pub slice_bounds-list_turns-end : goal.slice_bounds-list_turns-end
-slice_bounds-list_turns-end c = sym (ap length (ends_so (goal.at.slice_bounds-list_turns-end c).After-copy_ends))
+play : (c : After-copy_ends) → take (length c.args.pairs.now / 2) (replicate limits1.most_channels true) ≡ replicate (length c.args.pairs.now / 2) true
+play c = take_replicate _ limits1.most_channels true (pairs_few _ _ c.requires.filed).1
 
-pub slice_bounds-play-end : goal.slice_bounds-play-end
-slice_bounds-play-end c = omega (arith, (pairs_few _ _ c.requires.filed).1, c.all_channels-play.ensures.1)
+filed : (c : After-copy_ends) → let a = c.args in Filed (length (lent a.v)) (take (length a.pairs.now) c.copy_ends.new.ends) (take (length a.pairs.now / 2) (replicate limits1.most_channels true))
+filed c = filed_as _ _ c.requires.filed _ _ _ (ports c) (ends c) (play c)
 
-pub slice_bounds-list_turns-end-2 : goal.slice_bounds-list_turns-end-2
-slice_bounds-list_turns-end-2 c = sym (ap length (play_so (goal.at.slice_bounds-list_turns-end-2 c).After-all_channels-play) ∙ length-replicate _ _)
+-- its listing is that of the plate
+same : (c : After-copy_ends) → let a = c.args in lines_of (length (lent a.v)) (take (length a.pairs.now) c.copy_ends.new.ends) (take (length a.pairs.now / 2) (replicate limits1.most_channels true)) ≡ lines_of a.v a.pairs.now (replicate (length a.pairs.now / 2) true)
+same c = same_lines _ _ c.requires.filed _ _ _ (ports c) (ends c) (play c)
 
-pub list_turns-requires : goal.list_turns-requires
-list_turns-requires c =
-    let w = ask_turns _ _ c.requires.filed _ _ (ends_so (goal.at.list_turns-requires c).After-copy_ends) (play_so (goal.at.list_turns-requires c).After-all_channels-play) _ _ _ _ c.no_ends-firsts.ensures.1 c.no_ends-lens.ensures.1 c.no_story-story.ensures.1 c.requires.lent in
-    record { filed = w.0; starts = w.1.0; sizes = w.1.1.0; room = w.1.1.1.0; lent = w.1.1.1.1 }
+pub lay_out-end-requires-clause-plan : goal.lay_out-end-requires-clause-plan
+lay_out-end-requires-clause-plan c = filed_plan _ _ _ (filed (goal.at.lay_out-end-requires-clause-plan c).After-copy_ends)
+
+pub invariant_of-net : goal.invariant_of-net
+invariant_of-net c =
+    let was = (goal.at.invariant_of-net c).After-copy_ends in
+    let w = ask_net _ _ _ (filed was) _ _ _ _ _ _ _ c.lay_out-end.ensures.left c.lay_out-end.auto.first _ refl in
+    record { sized = w.0; tables = w.1 }
+
+pub invariant_of-kept : goal.invariant_of-kept
+invariant_of-kept c =
+    let was = (goal.at.invariant_of-kept c).After-copy_ends in
+    record { walkable = ask_walkable _ _ _ (filed was) _ _ _ _ _ _ _ c.lay_out-end.ensures.left c.lay_out-end.auto.first _ (search rules) }
+
+pub write_listing-requires-clause-held : goal.write_listing-requires-clause-held
+write_listing-requires-clause-held c =
+    let was = (goal.at.write_listing-requires-clause-held c).After-copy_ends in
+    ask_held _ _ _ (filed was) _ _ _ _ _ _ _ c.lay_out-end.ensures.left c.lay_out-end.auto.first _ (search rules)
+
+pub write_listing-requires-clause-room : goal.write_listing-requires-clause-room
+write_listing-requires-clause-room c =
+    let was = (goal.at.write_listing-requires-clause-room c).After-copy_ends in
+    ask_room _ _ _ (filed was) _ _ _ _ _ _ _ c.lay_out-end.ensures.left c.lay_out-end.auto.first _ (search rules) _ (same was) c.args.out.now c.requires.room
 
 pub returns : goal.returns
-returns c = put_as (same_lines _ _ c.requires.filed _ _ (ends_so (goal.at.returns c).After-copy_ends) (play_so (goal.at.returns c).After-all_channels-play)) c.list_turns.ensures
+returns c =
+    let was = (goal.at.returns c).After-copy_ends in
+    listed_of _ _ _ (filed was) _ _ _ _ _ _ _ c.lay_out-end.ensures.left c.lay_out-end.auto.first _ (search rules) _ (same was) _ _ c.write_listing.ensures

@@ -1,53 +1,66 @@
 -- `text::listing` meets its contract: a buffer too short, a file that is refused and a plate that is read are the three cases of the call (Calling).
 -- Assumes nothing.
-use Rattle.plate.specs.declared.Reading.TheVariants.{Plate as Read}
+use Rattle.std.proofs.Common.{rules}
 use mathlib.Core.Path.{◌≡◌, sym, ap, ◌∙◌}
-use Prim.Native.Nat.{ℕ}
+use mathlib.Core.Bool.{true}
+use mathlib.Core.List.{List}
+use Prim.Native.Nat.{ℕ, ◌/◌}
 use native.Mathlib.Omega.{arith}
+use Rattle.std.specs.Prelude.{Ok}
+use lib.ListN.{length, replicate}
 use Rattle.rules.specs.Refusals.{refused, read_plate, pairs_of}
-use Rattle.plate.specs.declared.Refusal.{Refusal}
-use Rattle.plate.specs.Answers.{refusal_in}
+use Rattle.rules.specs.Listing.{listing}
 use Rattle.plate.proofs.Laws.{Known, known, read_is, unread, part_is}
-use Rattle.text.proofs.Calling.{filed_of, ask_refused, call_short, call_read, call_refused}
+use Rattle.print.specs.Puts.{Put}
+use Rattle.text.specs.Calls.{Filed}
+use Rattle.text.proofs.Calling.{filed_ports, filed_darts, filed_of, ask_lines, ask_refused, read_lines, refused_lines, written, call_short, call_told, call_left}
 use Rattle.text.proofs.listing.Goals as goal
-use Rattle.text.proofs.listing.Goals.{After-pairs, After-wide32-in_default, In-Plate}
+use Rattle.text.proofs.listing.Goals.{After-pairs, After-number, In-Ok, in-Ok, in-Err}
 
--- RAW
--- ---- places: where the refusal's numbers are, the plate that was read, the pairs
-
--- RAW
--- ---- what is known there
-
-refusal : (c : After-wide32-in_default) → read_plate c.args.file.now ≡ refused c.wide32.result c.wide32-in_default.result
-refusal c =
-    unread _ _ c.read-got.ensures _ c.in_default.is
-    ∙ ap (λ (x : Refusal). refused x.number x.place) (sym (c.refusal_in-x.ensures ∙ ap refusal_in c.in_default.is))
-    ∙ ap (λ (n : ℕ). refused n c.refusal_in-x.result.place) (sym c.wide32.ensures)
-    ∙ ap (refused c.wide32.result) (sym c.wide32-in_default.ensures)
-
-plate : (c : In-Plate) → Known c.args.file.now c.in-Plate.p
-plate c = known _ _ c.read-got.ensures _ c.in-Plate.is
+-- the plate that was read, and its pairs
+plate : (c : In-Ok) → Known c.args.file.now c.in-Ok.p
+plate c = known _ _ c.read-got.ensures _ c.in-Ok.is
 
 pairs : (c : After-pairs) → c.pairs.result.now ≡ pairs_of c.args.file.now
-pairs c = c.pairs.ensures ∙ part_is _ (Read c.in-Plate.p) (read_is _ _ c.read-got.ensures _ c.in-Plate.is)
+pairs c = c.pairs.ensures ∙ part_is _ (Ok c.in-Ok.p) (read_is _ _ c.read-got.ensures _ c.in-Ok.is)
+
+filed : (c : In-Ok) (l : List ℕ) → l ≡ pairs_of c.args.file.now → Filed c.in-Ok.p.ports l (replicate (length l / 2) true)
+filed c l e = filed_of _ _ (plate c) l e
+
+-- the refusal, with its number and place
+refusal : (c : After-number) → read_plate c.args.file.now ≡ refused c.number.result c.in-Err.x.place
+refusal c = unread _ _ c.read-got.ensures _ c.in-Err.is ∙ ap (λ (n : ℕ). refused n c.in-Err.x.place) (sym c.number.ensures)
 
 pub returns-then-out-lt-MOST_LISTING : goal.returns-then-out-lt-MOST_LISTING
 returns-then-out-lt-MOST_LISTING c =
     let w = call_short c.args.file.now c.args.out.now (omega (arith, c.if-out-lt-MOST_LISTING.true)) in
     record { answer = w.0; bytes = w.1 }
 
-pub refused_line-count-requires : goal.refused_line-count-requires
-refused_line-count-requires c = ask_refused _ _ _ (refusal c) _ c.if-out-lt-MOST_LISTING.false
+pub list_pairs-requires-clause-limits : goal.list_pairs-requires-clause-limits
+list_pairs-requires-clause-limits c =
+    let was = goal.at.list_pairs-requires-clause-limits c in
+    let F = filed was.In-Ok _ (pairs was.After-pairs) in
+    (filed_ports _ _ _ F, filed_darts _ _ _ F)
 
-pub returns-in_default : goal.returns-in_default
-returns-in_default c =
-    let w = call_refused _ _ _ (refusal (goal.at.returns-in_default c).After-wide32-in_default) _ _ _ c.if-out-lt-MOST_LISTING.false c.refused_line-count.ensures in
-    record { answer = w.0; bytes = w.1 }
+pub list_pairs-requires-clause-filed : goal.list_pairs-requires-clause-filed
+list_pairs-requires-clause-filed c =
+    let was = goal.at.list_pairs-requires-clause-filed c in
+    filed was.In-Ok _ (pairs was.After-pairs)
 
-pub list_pairs-count-requires : goal.list_pairs-count-requires
-list_pairs-count-requires c = record { filed = filed_of _ _ (plate (goal.at.list_pairs-count-requires c).In-Plate) _ (pairs (goal.at.list_pairs-count-requires c).After-pairs); lent = c.if-out-lt-MOST_LISTING.false }
+pub list_pairs-requires-clause-room : goal.list_pairs-requires-clause-room
+list_pairs-requires-clause-room c =
+    let was = goal.at.list_pairs-requires-clause-room c in
+    ask_lines _ _ _ (filed was.In-Ok _ (pairs was.After-pairs)) _ c.if-out-lt-MOST_LISTING.false
 
+pub refused_line-requires : goal.refused_line-requires
+refused_line-requires c = ask_refused _ _ _ (refusal (goal.at.refused_line-requires c).After-number) _ c.if-out-lt-MOST_LISTING.false
+
+-- the listing is written in either case
 pub returns : goal.returns
 returns c =
-    let w = call_read _ _ (plate (goal.at.returns c).In-Plate) _ (pairs (goal.at.returns c).After-pairs) _ _ _ c.if-out-lt-MOST_LISTING.false c.list_pairs-count.ensures in
-    record { answer = w.0; bytes = w.1 }
+    let b = c.args.file.now in
+    let w : Put (listing b) 0 c.args.out.now c.match-got.out.bytes.now c.match-got.out.at = elim c.match-got.branch [
+      | in-Ok w ↦ written b _ c.args.out.now _ _ (read_lines b w.in-Ok.p (known _ _ c.read-got.ensures _ w.in-Ok.is) _ (w.pairs.ensures ∙ part_is _ (Ok w.in-Ok.p) (read_is _ _ c.read-got.ensures _ w.in-Ok.is))) w.out-is w.list_pairs.ensures.put
+      | in-Err w ↦ written b _ c.args.out.now _ _ (refused_lines b _ _ (unread _ _ c.read-got.ensures _ w.in-Err.is ∙ ap (λ (n : ℕ). refused n w.in-Err.x.place) (sym w.number.ensures))) w.out-is w.refused_line.ensures.put
+    ] in
+    record { answer = call_told b c.args.out.now c.if-out-lt-MOST_LISTING.false _ _ w; bytes = call_left b c.args.out.now c.if-out-lt-MOST_LISTING.false _ _ w _ (search rules) }

@@ -8,12 +8,8 @@ use Rattle.rules.specs.Refusals.{pairs_of}
 use Rattle.plate.specs.State.{copied}
 use Rattle.plate.proofs.Laws.{part_is}
 use Rattle.try_calls.proofs.try_pairs.Goals as goal
-use Rattle.try_calls.proofs.try_pairs.Goals.{After-pairs-pairs}
-
-pairs : (c : After-pairs-pairs) → c.pairs-pairs.result.now ≡ pairs_of c.args.file.now
-pairs c = c.pairs-pairs.ensures ∙ part_is _ _ c.read-got.ensures
 
 pub returns : goal.returns
 returns c =
-    let old = c.args.ends.now in
-    record { count = ap length (pairs (goal.at.returns c).After-pairs-pairs); ends = c.copy_ends.ensures ∙ ap (λ (p : List ℕ). copied p old) (pairs (goal.at.returns c).After-pairs-pairs) }
+    let e : c.pairs-pairs.result.now ≡ pairs_of c.args.file.now = c.pairs-pairs.ensures ∙ part_is _ _ c.read.ensures in
+    record { count = ap length e; ends = c.copy_ends.ensures ∙ ap (λ (p : List ℕ). copied p c.args.ends.now) e }

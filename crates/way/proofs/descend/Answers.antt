@@ -1,40 +1,42 @@
--- `way::descend` meets its contract. The invariant: the first n darts of the route are written, and the rest of the route begins at p (Descending). The measure is what is left of the route.
+-- `way::descend` meets its contract. The invariant: the first n darts of the route are written, and the rest of the route begins at p (Descending).
 -- Assumes nothing.
-use Prim.Native.Nat.{◌<◌}
+use mathlib.Core.Path.{◌≡◌, sym, ap, ◌∙◌}
+use Prim.Native.Nat.{◌-◌, ◌<◌}
 use native.Mathlib.Omega.{arith}
 use lib.ListN.{length}
+use Rattle.rules.specs.Lists.{from}
+use Rattle.rules.specs.Terms.{missing}
+use Rattle.rules.specs.Ways.{in_play, nearest}
+use Rattle.way.specs.Marks.{within, number_of}
 use Rattle.way.proofs.Darts.{turned, entered_port}
-use Rattle.way.proofs.Descending.{start, same, dart, step_as, end}
+use Rattle.way.proofs.Choosing.{dart_found, number_same}
+use Rattle.way.proofs.Descending.{start, dart, step_as, end}
 use Rattle.way.proofs.descend.Goals as goal
-use Rattle.way.proofs.descend.Goals.{After-nearest-d}
+use Rattle.way.proofs.descend.Goals.{After-unwrap-d}
 
--- what is taken is a dart
-taken : (c : After-nearest-d) → c.nearest-d.result < length c.args.ends.now
-taken c = dart _ _ _ _ _ _ c.requires.room _ _ _ c.loop-n.invariant (omega arith) c.requires.darts _ c.nearest-d.ensures
+-- what is taken is the nearest dart
+taken : (c : After-unwrap-d) → c.unwrap-d.result ≡ nearest c.args.net.ends.now (in_play c.args.net.play.now) c.loop-n.p (within c.args.far.now (c.args.k - c.loop-n.n - 1)) (from 0 (length c.args.net.ends.now)) missing
+taken c = ap number_of (sym c.unwrap-d.ensures ∙ c.nearest.ensures) ∙ number_same _
+
+inside : (c : After-unwrap-d) → c.unwrap-d.result < length c.args.net.ends.now
+inside c = dart _ _ _ _ _ _ c.requires.room _ _ _ c.loop-n.invariant (omega arith) c.requires.darts _ (taken c)
 
 pub loop-n-init : goal.loop-n-init
 loop-n-init c = start _ _ _ _ _ _ c.requires.port
 
-pub nearest-d-requires : goal.nearest-d-requires
-nearest-d-requires c = record { sizes = c.requires.sizes; tables = c.requires.tables; port = c.loop-n.invariant.port }
+pub unwrap-d-requires : goal.unwrap-d-requires
+unwrap-d-requires c = dart_found _ _ _ c.requires.sizes.few (λ d e. dart _ _ _ _ _ _ c.requires.room _ _ _ c.loop-n.invariant (omega arith) c.requires.darts d e) c.nearest.ensures
 
-pub narrow-requires : goal.narrow-requires
-narrow-requires c = omega (arith, taken c)
-
-pub bounds-out-n : goal.bounds-out-n
-bounds-out-n c = omega (arith, same _ _ _ _ _ _ c.requires.room _ _ _ c.loop-n.invariant)
+pub overflow_cast-out : goal.overflow_cast-out
+overflow_cast-out c = omega (arith, inside (goal.at.overflow_cast-out c).After-unwrap-d)
 
 pub enters-p-requires : goal.enters-p-requires
-enters-p-requires c = record { small = omega (arith, taken (goal.at.enters-p-requires c).After-nearest-d); dart = turned _ _ _ c.requires.sizes _ (taken (goal.at.enters-p-requires c).After-nearest-d) }
+enters-p-requires c = record { small = omega (arith, inside (goal.at.enters-p-requires c).After-unwrap-d); dart = turned _ _ _ c.args.net.sized _ (inside (goal.at.enters-p-requires c).After-unwrap-d) }
 
 pub loop-n-preserved : goal.loop-n-preserved
 loop-n-preserved c =
-    let d = taken (goal.at.loop-n-preserved c).After-nearest-d in
-    step_as _ _ _ _ _ _ c.requires.room _ _ _ c.loop-n.invariant (omega arith) c.requires.darts _ c.nearest-d.ensures _ _ c.narrow.ensures c.enters-p.ensures
-    (entered_port _ _ _ c.requires.sizes _ d)
-
-pub shape_of-out : goal.shape_of-out
-shape_of-out c = same _ _ _ _ _ _ c.requires.room _ _ _ c.loop-n.invariant
+    let was = (goal.at.loop-n-preserved c).After-unwrap-d in
+    step_as _ _ _ _ _ _ c.requires.room _ _ _ c.loop-n.invariant (omega arith) c.requires.darts _ (taken was) _ c.enters-p.ensures (omega (arith, entered_port _ _ _ c.args.net.sized _ (inside was), c.requires.ports))
 
 pub returns : goal.returns
 returns c = end _ _ _ _ _ _ c.requires.room _ _ _ c.loop-n.invariant (omega arith)

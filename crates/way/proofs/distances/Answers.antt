@@ -1,6 +1,6 @@
 -- `way::distances` meets its contract. The invariant: after j passes the ports within mark i are those from which i channels lead to y, for each i up to j, and no port is marked above j (Measuring). The measure is the number of ports less j: as many passes as there are ports reach x.
 -- Assumes nothing.
-use mathlib.Core.Path.{sym, ap, ◌∙◌}
+use mathlib.Core.Path.{ap, ◌∙◌}
 use Prim.Native.Nat.{ℕ, ◌<◌}
 use native.Mathlib.Omega.{arith}
 use lib.ListN.{length}
@@ -16,14 +16,8 @@ fewer c = more _ _ _ _ _ _ _ _ c.loop-j.invariant c.requires.ports.0 c.requires.
 pub loop-j-init : goal.loop-j-init
 loop-j-init c = start _ _ _ _ _ _ _ (c.begin.ensures ∙ ap (λ (v : ℕ). begun v c.args.y) c.requires.marks)
 
-pub bounds-far-x : goal.bounds-far-x
-bounds-far-x c = omega (arith, c.loop-j.invariant.size)
-
-pub pass-requires : goal.pass-requires
-pass-requires c = record { sizes = c.requires.sizes; marks = omega (arith, c.loop-j.invariant.size); small = omega (arith, fewer (goal.at.pass-requires c).In-loop-j) }
-
-pub overflow_add-j : goal.overflow_add-j
-overflow_add-j c = omega (arith, fewer (goal.at.overflow_add-j c).In-loop-j)
+pub pass-requires-clause-small : goal.pass-requires-clause-small
+pass-requires-clause-small c = omega (arith, fewer (goal.at.pass-requires-clause-small c).In-loop-j)
 
 pub loop-j-smaller : goal.loop-j-smaller
 loop-j-smaller c = omega (arith, fewer (goal.at.loop-j-smaller c).In-loop-j)
@@ -31,8 +25,5 @@ loop-j-smaller c = omega (arith, fewer (goal.at.loop-j-smaller c).In-loop-j)
 pub loop-j-preserved : goal.loop-j-preserved
 loop-j-preserved c = step _ _ _ _ _ _ _ _ c.loop-j.invariant c.requires.ports.0 _ c.pass.ensures (omega arith) (fewer (goal.at.loop-j-preserved c).In-loop-j) (omega arith)
 
-pub shape_of-far : goal.shape_of-far
-shape_of-far c = c.loop-j.invariant.size ∙ sym c.requires.marks
-
-pub returns : goal.returns
-returns c = record { most = c.loop-j.invariant.most; sets = end _ _ _ _ _ _ _ _ c.loop-j.invariant c.requires.ports.0 (omega arith) }
+pub returns-clause-sets : goal.returns-clause-sets
+returns-clause-sets c = end _ _ _ _ _ _ _ _ c.loop-j.invariant c.requires.ports.0 (omega arith)

@@ -6,7 +6,7 @@ use Rattle.way.proofs.Measuring.{Measuring}
 use Rattle.way.proofs.distances.Given as goal
 
 abbrev pub invariant-loop-j : goal.invariant-loop-j
-invariant-loop-j l = Measuring (length l.free) l.ends l.ok l.free l.x l.y l.far l.j
+invariant-loop-j l = Measuring (length l.free) l.net.ends.now l.net.play.now l.free l.x l.y l.far l.j
 
 abbrev pub decreases-loop-j : goal.decreases-loop-j
 decreases-loop-j l = length l.free - l.j

@@ -1,15 +1,7 @@
--- `way::mark` meets its contract: the code's test is the definition's.
+-- `way::mark` meets its contract: the smaller of the two numbers is the mark that the definition gives.
 -- Assumes nothing.
-use native.Mathlib.Omega.{arith}
-use borrow.Author.Tests.{lt-ltb, le-ltb}
-use lib.ListN.{get_or}
-use Rattle.way.specs.Marks.{lowered}
+use Rattle.way.proofs.Within.{least_lowered}
 use Rattle.way.proofs.mark.Goals as goal
 
-pub returns-then-j-wide : goal.returns-then-j-wide
-unfolding lowered
-returns-then-j-wide c = rw (lt-ltb c.args.j (get_or c.args.far.now c.args.p 0) (omega arith), c.narrow.ensures)
-
-pub returns-else-j-wide : goal.returns-else-j-wide
-unfolding lowered
-returns-else-j-wide c = rw (le-ltb c.args.j (get_or c.args.far.now c.args.p 0) (omega arith))
+pub returns : goal.returns
+returns c = rw c.min.ensures (least_lowered c.args.far.now c.args.p c.args.j)

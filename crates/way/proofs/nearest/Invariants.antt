@@ -8,7 +8,7 @@ use Rattle.way.proofs.Choosing.{Choosing}
 use Rattle.way.proofs.nearest.Given as goal
 
 abbrev pub invariant-loop-d : goal.invariant-loop-d
-invariant-loop-d l = Choosing l.ends (in_play l.ok) l.p (within l.far l.j) l.d l.b
+invariant-loop-d l = Choosing l.net.ends.now (in_play l.net.play.now) l.p (within l.far l.j) l.d l.b
 
 abbrev pub decreases-loop-d : goal.decreases-loop-d
-decreases-loop-d l = length l.ends - l.d
+decreases-loop-d l = length l.net.ends.now - l.d

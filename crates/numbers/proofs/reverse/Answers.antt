@@ -1,9 +1,0 @@
--- `numbers::reverse` meets its contract: the code is the definition.
--- Assumes nothing.
-use mathlib.Core.Path.{refl}
-use Rattle.rules.specs.Terms.{reverse}
-use Rattle.numbers.proofs.reverse.Goals as goal
-
-pub returns : goal.returns
-unfolding reverse
-returns c = refl

@@ -37,19 +37,20 @@ pub fn lay_out(
     requires sizes { length play.now + 2 ≤ length laying.old.lens.now }
     requires room { 4 * length play.now + length first.old + 4 ≤ length story.old }
     ensures left { let m = laying.new in Left (length first.old) ends.now play.now n first.new more.new m.turns.now m.firsts.now m.lens.now story.new result }
+    ensures count { laying.new.count ≡ result.lands }
     ensures kept { Kept laying.old laying.new }
 {
     let v = first.len();
     let e = play.len();
     let darts = ends.len();
-    let mut laid = [false; Plate::MOST_PORTS];
-    let mut marks = [false; Plate::MOST_PORTS];
-    let mut queue = [0u16; Plate::MOST_PORTS];
-    let mut touched = [false; Plate::MOST_PORTS];
-    let mut contacts = [0u16; Plate::MOST_PORTS];
-    let mut inside = [false; Plate::MOST_PORTS];
-    let mut own = [true; Plate::MOST_CHANNELS];
-    let mut bars = [0u16; Plate::MOST_DARTS];
+    let mut laid = Plate::no_marks();
+    let mut marks = Plate::no_marks();
+    let mut queue = Plate::no_ports();
+    let mut touched = Plate::no_marks();
+    let mut contacts = Plate::no_ports();
+    let mut inside = Plate::no_marks();
+    let mut own = Plate::all_channels();
+    let mut bars = Plate::no_ends();
     let mut desk = Desk {
         marks: &mut marks[..v],
         queue: &mut queue[..v],

@@ -1,6 +1,6 @@
 -- The bytes of a sheet (rules, `file_of`), as they are put into a buffer one part behind the other.
--- put_bytes: the two bytes of a number, stored. put_head: the bytes before the pairs. put_turn: the bytes of one turn more. put_sheet: the three parts of a sheet.
--- pairs_start: the pairs begin at byte 8. part_size, mid_size: a part of the buffer that is lent, and the buffer when it comes back.
+-- put_mid: a part that was lent, put back. put_head: the bytes before the pairs. put_turn: the bytes of one turn more. put_sheet: the three parts of a sheet.
+-- pairs_start: the pairs begin at byte 8. part_size, middle_size, whole, mid_size: a part of the buffer that is lent, what is written whole, and the buffer when it comes back.
 -- Assumes nothing.
 use mathlib.Core.Path.{◌≡◌, refl, sym, ap, ◌∙◌}
 use mathlib.Core.List.{List, [], ◌∷◌, ◌++◌, map, append_assoc, append-nil, map-append}
@@ -60,6 +60,13 @@ put_head v e o x y z h l p q r =
 
 pub part_size : (xs : List ℕ) (a : ℕ) → a ≤ length xs → length (take (length xs - a) (drop a xs)) ≡ length xs - a
 part_size xs a h = simp (length-take, length-drop) (omega arith)
+
+pub middle_size : (o : List ℕ) (n : ℕ) → 8 + 3 * n ≤ length o → length (take (8 + n - 8) (drop 8 o)) ≡ n
+middle_size o n h = simp (length-take, length-drop) (omega arith)
+
+-- a part that is written whole
+pub whole : (vs part : List ℕ) → length part ≡ length vs → vs ++ drop (length vs) part ≡ vs
+whole vs part e = ap (λ (l : List ℕ). vs ++ l) (drop_of_length-le part (omega (arith, e))) ∙ append-nil vs
 
 -- the buffer is as long as before
 pub mid_size : (o ys : List ℕ) (at n : ℕ) → at + n ≤ length o → length ys ≡ n → length (take at o ++ (ys ++ drop (at + n - at) (drop at o))) ≡ length o

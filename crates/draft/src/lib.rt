@@ -38,6 +38,16 @@ fn put_head(v: u8, e: u16, out: &mut [u8])
     put_word(e, out, Plate::CHANNELS_AT);
 }
 
+// Writes the pairs at the start of the part. (By `copy_from_slice` the archive for C would ask for one more name from outside, `memmove`.)
+fn put_pairs(pairs: &[u8], part: &mut [u8])
+    requires { length pairs.now ≤ length part.old }
+    ensures { part.new ≡ pairs.now ++ drop (length pairs.now) part.old }
+{
+    for (i, port) in pairs.iter().enumerate() {
+        part[i] = *port;
+    }
+}
+
 // Writes the turns at the start of the part.
 fn put_turns(turns: &[u16], part: &mut [u8])
     requires { 2 * length turns.now ≤ length part.old }
@@ -58,7 +68,7 @@ fn put_sheet(p: Plate, pairs: &[u8], turns: &[u16], out: &mut [u8])
 {
     put_head(p.ports as u8, p.channels as u16, out);
     let start = Plate::PAIRS_AT + pairs.len();
-    out[Plate::PAIRS_AT..start].copy_from_slice(pairs);
+    put_pairs(pairs, &mut out[Plate::PAIRS_AT..start]);
     put_turns(turns, &mut out[start..]);
 }
 
@@ -73,10 +83,10 @@ fn lay_sheet(file: &[u8], p: Plate, out: &mut [u8]) -> Result<(), Refusal>
 {
     let darts = 2 * p.channels;
     let most = p.channels + 2 - p.ports;
-    let mut turns = [Plate::MISSING; Plate::MOST_DARTS];
-    let mut lands = [Plate::MISSING; Plate::MOST_DARTS];
-    let mut lengths = [0u16; Plate::MOST_DARTS];
-    let pairs = plate::pairs(file, Ok(p));
+    let mut turns = Plate::no_turns();
+    let mut lands = Plate::no_turns();
+    let mut lengths = Plate::no_turns();
+    let pairs = plate::pairs(file, Ok::<_, Refusal>(p));
     let laid = laid::lay_pairs(
         pairs,
         p.ports,

@@ -59,14 +59,14 @@ pub fn lay_pairs(
     ensures { Sheet v pairs.now (replicate (length pairs.now / 2) true) n (length lengths.old) turns.new lands.new lengths.new result }
 {
     let darts = pairs.len();
-    let mut ends = [0u16; Plate::MOST_DARTS];
+    let mut ends = Plate::no_ends();
     plate::copy_ends(pairs, &mut ends);
     let ends = &ends[..darts];
-    let play = &[true; Plate::MOST_CHANNELS][..darts / 2];
-    let first = &mut [0u16; Plate::MOST_PORTS][..v];
-    let more = &mut [0u16; Plate::MOST_DARTS][..darts];
-    let firsts = &mut [0u16; Plate::MOST_DARTS];
-    let lens = &mut [0u16; Plate::MOST_DARTS];
+    let play = &Plate::all_channels()[..darts / 2];
+    let first = &mut Plate::no_ports()[..v];
+    let more = &mut Plate::no_ends()[..darts];
+    let firsts = &mut Plate::no_ends();
+    let lens = &mut Plate::no_ends();
     let story = &mut [0u16; desk::STORY];
     let mut laying = Laying {
         turns,

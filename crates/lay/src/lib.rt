@@ -28,7 +28,8 @@ pub fn lay(
     ensures lands { lands.new ≡ lands_left (lay_plate file.now n (length turns.old) (length lands.old) (length lengths.old)) lands.old }
     ensures lengths { lengths.new ≡ lengths_left (lay_plate file.now n (length turns.old) (length lands.old) (length lengths.old)) lengths.old }
 {
-    let p = plate::read(file)?;
+    let got = plate::read(file);
+    let p = got?;
     let darts = 2 * p.channels;
     let most = p.channels + 2 - p.ports;
     if is_short(darts, most, turns.len(), lands.len(), lengths.len()) {
@@ -38,7 +39,7 @@ pub fn lay(
         });
     }
     Ok(laid::lay_pairs(
-        plate::pairs(file, Ok(p)),
+        plate::pairs(file, got),
         p.ports,
         n as usize,
         &mut turns[..darts],

@@ -1,6 +1,6 @@
 -- The ports of a file's pairs, copied into the front of an array (specs, `copied`).
 -- copy_on: a loop that copies takes one port more.
--- copied_ends, ends_front: the copy of a file's pairs, and its front. pair_tests_as, piece_tests_as: the tests of that front.
+-- had_all, ends_front: the pairs that a file has, copied, and the front of the copy. pair_tests_as, piece_tests_as: the tests of that front.
 -- tested_pairs, tested_whole: what passing tests 1 to 9 guarantees for it. sheet_pairs, sheet_front: the same of a turn sheet that passed them, and the front of the copy of its pairs.
 -- Assumes nothing.
 use mathlib.Core.Path.{◌≡◌, refl, sym, ap, ◌∙◌}

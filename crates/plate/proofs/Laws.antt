@@ -2,7 +2,7 @@
 --   Known b p                   the code's plate p was read from the file b: its counts, its length, and every test passed
 -- number_.., bytes_numbers_lem: one-byte numbers are a part of the file. length_plate, length_sheet: the lengths 8 + 2E and 8 + 6E. sheet_..: a sheet's V, E and ports stand where a plate file's do.
 -- ends_part: the ports of the pairs are a part of the file. plate_size, sheet_size: the length of a file that passed tests 1 to 9 (laws, `Tested`).
--- test_passed, test_refused: a test of the code that was passed or refused. known, read_is, unread: a reading that gave a plate or a refusal. part_none, part_rest, part_front: the part of a file that the reader hands back as its pairs. part_is, pairs_ends, pairs_length: of a file that was read they are the ports of the pairs.
+-- test_passed, test_refused: a test of the code that was passed or refused. known, read_is, unread: a reading that gave a plate or a refusal. part_none, part_rest, part_front: the part of a file that the reader hands back as its pairs. part_as, part_is, part_told, pairs_ends, pairs_length: of a file that was read they are the ports of the pairs.
 -- length_copied, copied_front: a copy is as long as what it was copied into, and begins with what was copied. refusal_unique, test_unique, reading_unique: what an answer stands for determines it.
 -- Assumes nothing.
 use mathlib.Core.Path.{◌≡◌, refl, sym, ap, ◌∙◌}
@@ -23,7 +23,7 @@ use Rattle.plate.specs.declared.Plate.{Plate}
 use Rattle.plate.specs.declared.Refusal.{Refusal}
 use Rattle.plate.specs.declared.Fault.{Fault}
 use Rattle.plate.specs.declared.Fault.TheVariants.{Short, OtherMark, OtherVersion, PortsOutside, ChannelsOutside, OtherLength, Strange, Loop, MetEarlier, Apart, Cuts, WildTurn, AwayTurn, BrokenRing, Lent, Stuck}
-use Rattle.plate.specs.Answers.{number_of, test_of, reading_of}
+use Rattle.plate.specs.Answers.{number_of, test_of, reading_of, reading_by}
 use Rattle.plate.specs.State.{most_darts, no_ends, copied}
 
 -- ---- the layout
@@ -168,14 +168,15 @@ behind b = go (dec_lt (length b) 8)
         let m : min 8 (length b) ≡ 8 = omega arith in
         ap (λ (n : ℕ). drop n b) m
 
-module _ (b : List ℕ) (r : Result Plate Refusal) where
-  pub part_none : (x : Refusal) → r ≡ Err x → [] ≡ pairs_part (reading_of r b) b
-  unfolding pairs_part reading_of
+-- whatever numbers are told of a refusal
+module _ {E : Type 0} (told : E → ℕ × ℕ) (b : List ℕ) (r : Result Plate E) where
+  pub part_none : (x : E) → r ≡ Err x → [] ≡ pairs_part (reading_by told r b) b
+  unfolding pairs_part reading_by
   part_none x d = rw d
 
   module _ (p : Plate) (d : r ≡ Ok p) where
-    part_given : pairs_part (reading_of r b) b ≡ take (2 * p.channels) (drop 8 b)
-    unfolding pairs_part reading_of turns_at pairs_at
+    part_given : pairs_part (reading_by told r b) b ≡ take (2 * p.channels) (drop 8 b)
+    unfolding pairs_part reading_by turns_at pairs_at
     part_given =
         let n : 8 + 2 * p.channels * 1 - 8 ≡ 2 * p.channels = omega arith in
         rw (d, n)
@@ -185,20 +186,29 @@ module _ (b : List ℕ) (r : Result Plate Refusal) where
       behind_start : drop start b ≡ drop 8 b
       behind_start = ap (λ (n : ℕ). drop n b) e ∙ behind b
 
-      pub part_rest : (length b - start) / 2 < p.channels → take (length b - start) (drop start b) ≡ pairs_part (reading_of r b) b
+      pub part_rest : (length b - start) / 2 < p.channels → take (length b - start) (drop start b) ≡ pairs_part (reading_by told r b) b
       part_rest h =
           let l : length (drop start b) ≡ length b - start = length-drop start b in
           take_all (length b - start) (drop start b) (omega (arith, l)) ∙ sym (take_all (2 * p.channels) (drop start b) (omega (arith, l))) ∙ ap (take (2 * p.channels)) behind_start ∙ sym part_given
 
-      pub part_front : take (start + 2 * p.channels - start) (drop start b) ≡ pairs_part (reading_of r b) b
+      pub part_front : take (start + 2 * p.channels - start) (drop start b) ≡ pairs_part (reading_by told r b) b
       part_front =
           let n : start + 2 * p.channels - start ≡ 2 * p.channels = omega arith in
           ap (λ (m : ℕ). take m (drop start b)) n ∙ ap (take (2 * p.channels)) behind_start ∙ sym part_given
+
+-- the numbers that a refusal has are told of it, too
+pub part_as : (b : List ℕ) (r : Result Plate Refusal) (l : List ℕ) → ((told : Refusal → ℕ × ℕ) → l ≡ pairs_part (reading_by told r b) b) → l ≡ pairs_part (reading_of r b) b
+unfolding reading_by reading_of
+part_as b (Ok p) l h = h (λ x. (0, 0))
+part_as b (Err x) l h = h (λ y. (number_of y.fault, y.place))
 
 -- of the file's own reading
 pub part_is : (b : List ℕ) (r : Result Plate Refusal) → reading_of r b ≡ read_plate b → pairs_part (reading_of r b) b ≡ pairs_of b
 unfolding pairs_of
 part_is b r e = ap (λ (a : Answer RulePlate). pairs_part a b) e
+
+pub part_told : (b : List ℕ) (r : Result Plate Refusal) → reading_of r b ≡ read_plate b → (l : List ℕ) → ((told : Refusal → ℕ × ℕ) → l ≡ pairs_part (reading_by told r b) b) → l ≡ pairs_of b
+part_told b r e l h = part_as b r l h ∙ part_is b r e
 
 module _ (b : List ℕ) (p : Plate) (k : Known b p) where
   pairs_part_lem : pairs_of b ≡ take (2 * p.channels) (drop 8 b)

@@ -2,21 +2,33 @@
 --   OneResult n ps r B Q seen      of a function with n lifetimes, parameters ps and result r: two results that meet the postcondition Q for the same arguments are the same as far as `seen` looks
 -- `seen` gets the result and the parameters at exit, x.0, x.1.0, x.1.1.0 and so on. Of `pairs` it sees the contents of the part that is returned: where the part lies is not promised.
 -- Assumes nothing.
-use mathlib.Core.Path.{◌≡◌, sym, ap, ◌∙◌}
+use mathlib.Core.Path.{◌≡◌, sym, ◌∙◌}
+use mathlib.Core.Bool.{Bool}
 use mathlib.Core.List.{List}
 use Prim.Native.Nat.{ℕ}
-use Rattle.std.specs.Prelude.{Result}
+use Rattle.std.specs.Prelude.{Option, Result}
+use denote.RattleType.{RattleType}
+use denote.Param.Laws.{Laws}
+use mir.Syntax.{Dict}
 use contract.Lifetimes.{Lfts}
 use denote.Triple.Clauses.{AtExit}
 use borrow.Fn.Kind.{ParamKind, ResultKind}
 use borrow.Fn.Kinds.{Dens, Out, res_t, ended_of}
 use Rattle.plate.specs.declared.Plate.{Plate}
 use Rattle.plate.specs.declared.Refusal.{Refusal}
-use lib.ListN.{length}
-use Rattle.rules.specs.Files.{limits1}
-use Rattle.plate.specs.Answers.{reading_of, refusal_in}
-use Rattle.plate.specs.State.{most_darts, no_ends, no_turns, no_ports, no_marks, all_channels}
 use Rattle.plate.proofs.Laws.{plate_same, test_unique, reading_unique}
+use Rattle.plate.proofs.Plate.no_ends.Kinds as no-ends-kinds
+use Rattle.plate.proofs.Plate.no_ends.Reads as no-ends-reads
+use Rattle.plate.proofs.Plate.no_turns.Kinds as no-turns-kinds
+use Rattle.plate.proofs.Plate.no_turns.Reads as no-turns-reads
+use Rattle.plate.proofs.Plate.no_ports.Kinds as no-ports-kinds
+use Rattle.plate.proofs.Plate.no_ports.Reads as no-ports-reads
+use Rattle.plate.proofs.Plate.no_marks.Kinds as no-marks-kinds
+use Rattle.plate.proofs.Plate.no_marks.Reads as no-marks-reads
+use Rattle.plate.proofs.Plate.all_channels.Kinds as all-channels-kinds
+use Rattle.plate.proofs.Plate.all_channels.Reads as all-channels-reads
+use Rattle.plate.proofs.refusal_in.Kinds as refusal-in-kinds
+use Rattle.plate.proofs.refusal_in.Reads as refusal-in-reads
 use Rattle.plate.proofs.counts.Kinds as counts-kinds
 use Rattle.plate.proofs.counts.Reads as counts-reads
 use Rattle.plate.proofs.copy_ends.Kinds as copy-ends-kinds
@@ -35,25 +47,22 @@ use Rattle.plate.proofs.pairs.Reads as pairs-reads
 abbrev pub OneResult : (n : ℕ) (ps : List (ParamKind n)) (r : ResultKind n) (B : Type 0) → Out n ps r → ((κs : Lfts n) → (res_t r κs).Denot → AtExit (ended_of n ps r) κs → B) → Type 0
 OneResult n ps r B Q seen = (κs : Lfts n) (a : Dens κs ps) (z w : (res_t r κs).Denot) (x y : AtExit (ended_of n ps r) κs) → Q κs a z x → Q κs a w y → seen κs z x ≡ seen κs w y
 
--- ---- the empty states: what an array of one number or one flag for the largest plate holds, as the specs name it (State)
+-- ---- the makers of an empty state
 
-abbrev pub OneArray : {A : Type 0} → List A → ℕ → Type 0
-OneArray {A} all most = (r s : List A) → (r ≡ all) × (most ≡ length r) → (s ≡ all) × (most ≡ length s) → r ≡ s
+pub no_ends_unique : OneResult 0 no-ends-kinds.ps no-ends-kinds.r (List ℕ) no-ends-reads.Post (λ κs r x. r)
+no_ends_unique κs a r s x y p q = p.0 ∙ sym q.0
 
-pub no_ends_unique : OneArray no_ends most_darts
-no_ends_unique r s p q = p.0 ∙ sym q.0
+pub no_turns_unique : OneResult 0 no-turns-kinds.ps no-turns-kinds.r (List ℕ) no-turns-reads.Post (λ κs r x. r)
+no_turns_unique κs a r s x y p q = p.0 ∙ sym q.0
 
-pub no_turns_unique : OneArray no_turns most_darts
-no_turns_unique r s p q = p.0 ∙ sym q.0
+pub no_ports_unique : OneResult 0 no-ports-kinds.ps no-ports-kinds.r (List ℕ) no-ports-reads.Post (λ κs r x. r)
+no_ports_unique κs a r s x y p q = p.0 ∙ sym q.0
 
-pub no_ports_unique : OneArray no_ports limits1.most_ports
-no_ports_unique r s p q = p.0 ∙ sym q.0
+pub no_marks_unique : OneResult 0 no-marks-kinds.ps no-marks-kinds.r (List Bool) no-marks-reads.Post (λ κs r x. r)
+no_marks_unique κs a r s x y p q = p.0 ∙ sym q.0
 
-pub no_marks_unique : OneArray no_marks limits1.most_ports
-no_marks_unique r s p q = p.0 ∙ sym q.0
-
-pub all_channels_unique : OneArray all_channels limits1.most_channels
-all_channels_unique r s p q = p.0 ∙ sym q.0
+pub all_channels_unique : OneResult 0 all-channels-kinds.ps all-channels-kinds.r (List Bool) all-channels-reads.Post (λ κs r x. r)
+all_channels_unique κs a r s x y p q = p.0 ∙ sym q.0
 
 -- ---- the reader
 
@@ -69,9 +78,8 @@ file_tests_unique κs a r s x y p q = test_unique r s (p ∙ sym q)
 pub read_unique : OneResult 1 read-kinds.ps read-kinds.r (Result Plate Refusal) read-reads.Post (λ κs r x. r)
 read_unique κs a r s x y p q = reading_unique a.0.now r s (p ∙ sym q)
 
--- the refusal in what reading the file b gave, where there is one
-pub refusal_in_unique : (b : List ℕ) (r s : Result Plate Refusal) (x y : ℕ × ℕ) → reading_of r b ≡ reading_of s b → x ≡ refusal_in r → y ≡ refusal_in s → x ≡ y
-refusal_in_unique b r s x y e p q = p ∙ ap refusal_in (reading_unique b r s e) ∙ sym q
+pub refusal_in_unique : (E : RattleType) (l : Laws E) (drop : Dict) → OneResult 1 (refusal-in-kinds.ps E l) (refusal-in-kinds.r E l) (Option E.Denot) (refusal-in-reads.Post E l drop) (λ κs r x. r)
+refusal_in_unique E l drop κs a r s x y p q = p ∙ sym q
 
 pub number_unique : OneResult 0 number-kinds.ps number-kinds.r ℕ number-reads.Post (λ κs r x. r)
 number_unique κs a r s x y p q = p ∙ sym q
@@ -79,5 +87,6 @@ number_unique κs a r s x y p q = p ∙ sym q
 pub ends_in_unique : OneResult 1 ends-in-kinds.ps ends-in-kinds.r (List ℕ) ends-in-reads.Post (λ κs r x. r)
 ends_in_unique κs a r s x y p q = p.0 ∙ sym q.0
 
-pub pairs_unique : OneResult 1 pairs-kinds.ps pairs-kinds.r (List ℕ) pairs-reads.Post (λ κs r x. r.now)
-pairs_unique κs a r s x y p q = p ∙ sym q
+-- whatever type its argument has for a refusal
+pub pairs_unique : (E : RattleType) (l : Laws E) (drop : Dict) → OneResult 2 (pairs-kinds.ps E l) (pairs-kinds.r E l) (List ℕ) (pairs-reads.Post E l drop) (λ κs r x. r.now)
+pairs_unique E l drop κs a r s x y p q = p (λ e. (0, 0)) ∙ sym (q (λ e. (0, 0)))

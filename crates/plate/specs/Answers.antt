@@ -3,9 +3,10 @@
 --   number_of f           document 01's number of the refusal for a fault
 --   test_of t             what a test gave: leave to go on, or a refusal with its number and place
 --   reading_of r b        what reading the file b gave: the read plate, or a refusal with its number and place
---   refusal_in r          the number and the place of the refusal of a reading that has one, and 0 at 0 of one that has none
+--   reading_by told r b   the same of any kind of refusal, where `told` says which number and place it has
+--   refusal_in r          the refusal of a reading that has one
 -- Assumes nothing.
-use Rattle.std.specs.Prelude.{List, ℕ, Result, Ok, Err}
+use Rattle.std.specs.Prelude.{List, ℕ, Option, Some, None, Result, Ok, Err}
 use Rattle.rules.specs.Files.{Format, plate_file, sheet_file, ends_in}
 use Rattle.rules.specs.Refusals.{Answer, given, refused, passed, Test as RuleTest, Plate as RulePlate}
 use Rattle.plate.specs.declared.Kind.{Kind}
@@ -41,10 +42,14 @@ unfoldable pub test_of : Result (Unit {0}) Refusal → RuleTest
 test_of (Ok u) = passed
 test_of (Err x) = refused (number_of x.fault) x.place
 
+unfoldable pub reading_by : {E : Type 0} → (E → ℕ × ℕ) → Result Plate E → List ℕ → Answer RulePlate
+reading_by told (Ok p) b = given (record { ports = p.ports; channels = p.channels; ends = ends_in plate_file b })
+reading_by told (Err x) b = refused (told x).0 (told x).1
+
 unfoldable pub reading_of : Result Plate Refusal → List ℕ → Answer RulePlate
 reading_of (Ok p) b = given (record { ports = p.ports; channels = p.channels; ends = ends_in plate_file b })
 reading_of (Err x) b = refused (number_of x.fault) x.place
 
-abbrev pub refusal_in : Result Plate Refusal → ℕ × ℕ
-refusal_in (Ok p) = (0, 0)
-refusal_in (Err x) = (number_of x.fault, x.place)
+abbrev pub refusal_in : {E : Type 0} → Result Plate E → Option E
+refusal_in (Ok p) = None
+refusal_in (Err x) = Some x

@@ -1,12 +1,12 @@
 // The plate: its constants, the reader's answers, the tests of a file, and the reader of plate files.
 #![tactic(auto)]
 
-ghost use Rattle.std.specs.Prelude.{◌≡◌, true, not, ◌+◌, ◌*◌, ◌/◌, ◌<◌, ◌≤◌, ◌∷◌, ◌++◌, length, get_or, replicate, decimal, Some};
+ghost use Rattle.std.specs.Prelude.{◌≡◌, true, not, ◌+◌, ◌*◌, ◌/◌, ◌<◌, ◌≤◌, ◌∷◌, ◌++◌, ℕ, length, get_or, replicate, decimal, Some};
 ghost use Rattle.rules.specs.Lists.{number};
 ghost use Rattle.rules.specs.Files.{plate_file, limits1, ports_in, channels_in, ends_in, file_length};
 ghost use Rattle.rules.specs.Refusals.{refused, other_mark, mark_tests, count_tests, pair_tests, file_tests, passed, piece_tests, read_plate, pairs_part};
 ghost use Rattle.pieces.specs.Lent.{Lent};
-ghost use Rattle.plate.specs.Answers.{format_of, number_of, test_of, reading_of};
+ghost use Rattle.plate.specs.Answers.{format_of, number_of, test_of, reading_of, reading_by, refusal_in};
 ghost use Rattle.plate.specs.State.{most_darts, no_ends, no_turns, all_channels, no_marks, no_ports, copied, ends_had, Room, Whole};
 
 use reach::Net;
@@ -55,6 +55,41 @@ impl Plate {
 
     // The bytes that the listing call is to be lent: no listing has more.
     pub const MOST_LISTING: usize = 65536;
+
+    // For each dart of the largest plate, port 0.
+    pub fn no_ends() -> [u16; Plate::MOST_DARTS]
+        ensures { (result ≡ no_ends) × (most_darts ≡ length result) }
+    {
+        [0u16; Plate::MOST_DARTS]
+    }
+
+    // For each dart of the largest plate, a missing turn.
+    pub fn no_turns() -> [u16; Plate::MOST_DARTS]
+        ensures { (result ≡ no_turns) × (most_darts ≡ length result) }
+    {
+        [Plate::MISSING; Plate::MOST_DARTS]
+    }
+
+    // Every channel of the largest plate in play.
+    pub fn all_channels() -> [bool; Plate::MOST_CHANNELS]
+        ensures { (result ≡ all_channels) × (limits1.most_channels ≡ length result) }
+    {
+        [true; Plate::MOST_CHANNELS]
+    }
+
+    // For each port of the largest plate, no mark.
+    pub fn no_marks() -> [bool; Plate::MOST_PORTS]
+        ensures { (result ≡ no_marks) × (limits1.most_ports ≡ length result) }
+    {
+        [false; Plate::MOST_PORTS]
+    }
+
+    // For each port of the largest plate, the number 0.
+    pub fn no_ports() -> [u16; Plate::MOST_PORTS]
+        ensures { (result ≡ no_ports) × (limits1.most_ports ≡ length result) }
+    {
+        [0u16; Plate::MOST_PORTS]
+    }
 }
 
 // What is at fault, with document 01's number of its refusal.
@@ -252,8 +287,8 @@ pub fn copy_ends(pairs: &[u8], ends: &mut [u16])
 pub fn ends_in(file: &[u8]) -> [u16; Plate::MOST_DARTS]
     ensures { (result ≡ copied (ends_had file.now) no_ends) × (most_darts ≡ length result) }
 {
-    let mut ends = [0u16; Plate::MOST_DARTS];
-    copy_ends(pairs(file, Ok(counts(file))), &mut ends);
+    let mut ends = Plate::no_ends();
+    copy_ends(pairs(file, Ok::<_, Refusal>(counts(file))), &mut ends);
     ends
 }
 
@@ -323,11 +358,11 @@ fn piece_tests(ends: &[u16], v: usize) -> Result<(), Refusal>
 {
     let e = ends.len() / 2;
     let darts = ends.len();
-    let play = [true; Plate::MOST_CHANNELS];
-    let mut first = [0u16; Plate::MOST_PORTS];
-    let mut more = [0u16; Plate::MOST_DARTS];
-    let mut marks = [false; Plate::MOST_PORTS];
-    let mut queue = [0u16; Plate::MOST_PORTS];
+    let play = Plate::all_channels();
+    let mut first = Plate::no_ports();
+    let mut more = Plate::no_ends();
+    let mut marks = Plate::no_marks();
+    let mut queue = Plate::no_ports();
     room_tests(
         ends,
         &play[..e],
@@ -360,9 +395,16 @@ pub fn read(file: &[u8]) -> Result<Plate, Refusal>
     Ok(counts(file))
 }
 
-// The pairs of a file that was read, as that part of it; empty where it was refused.
-pub fn pairs(file: &[u8], got: Result<Plate, Refusal>) -> &[u8]
-    ensures { let b = file.now in result.now ≡ pairs_part (reading_of got b) b }
+// The refusal of a reading that has one, of whatever kind.
+pub fn refusal_in<E: Drop>(got: Result<Plate, E>) -> Option<E>
+    ensures { result ≡ refusal_in got }
+{
+    got.err()
+}
+
+// The pairs of a file that was read, as that part of it; empty where it was refused, whatever is told of the refusal.
+pub fn pairs<E: Drop>(file: &[u8], got: Result<Plate, E>) -> &[u8]
+    ensures { let b = file.now in (told : E → ℕ × ℕ) → result.now ≡ pairs_part (reading_by told got b) b }
 {
     let Ok(p) = got else {
         return &file[..0];

@@ -100,8 +100,8 @@ pub fn turn_tests(ends: &[u16], turns: &[u16], v: usize) -> Result<(), Refusal>
     ensures { test_of result ≡ turn_tests v ends.now turns.now }
 {
     let darts = ends.len();
-    let mut first = [0u16; Plate::MOST_DARTS];
-    let mut more = [0u16; Plate::MOST_DARTS];
+    let mut first = Plate::no_ends();
+    let mut more = Plate::no_ends();
     reach::neighbours(ends, &mut first[..v], &mut more[..darts]);
     table_tests(ends, turns, &first[..v], &more[..darts])
 }

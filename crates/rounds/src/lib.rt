@@ -73,6 +73,7 @@ fn rounds(
     requires under { let l = laying.old in Under (length net.first.now) net.ends.now net.play.now n l.turns.now l.firsts.now l.lens.now story.old l.count begun }
     requires bars { let l = laying.old in Bars (length net.first.now) net.ends.now net.play.now l.turns.now (lands l.turns.now l.firsts.now l.lens.now l.count) bars.old }
     ensures left { let g = net.entry in let m = laying.new in Left (length g.first.now) g.ends.now g.play.now n g.first.now g.more.now m.turns.now m.firsts.now m.lens.now story.new result }
+    ensures count { laying.new.count ≡ result.lands }
     ensures kept { Kept laying.old laying.new × DeskKept desk.old desk.new }
 {
     let mut at = begun;
@@ -130,6 +131,7 @@ pub fn lay_out(
     requires room { 4 * length play.now + length first.old + 4 ≤ length story.old }
     requires bars { length bars.old ≡ length ends.now }
     ensures left { let m = laying.new in Left (length first.old) ends.now play.now n first.new more.new m.turns.now m.firsts.now m.lens.now story.new result }
+    ensures count { laying.new.count ≡ result.lands }
     ensures kept { Kept laying.old laying.new × DeskKept desk.old desk.new }
 {
     reach::neighbours(ends, first, more);

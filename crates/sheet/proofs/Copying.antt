@@ -1,15 +1,25 @@
 -- The turns of a file, copied (the loop of `copy_turns`).
--- numbers_more: one number more of a file. turn_more: two bytes more of a file are one turn more.
+-- get_or_numbers: a number of a file by its index. numbers_more: one number more. turn_more: two bytes more of a file are one turn more.
 -- Assumes nothing.
 use mathlib.Core.Path.{◌≡◌, sym, ap, ◌∙◌}
 use mathlib.Core.List.{List, [], ◌∷◌, ◌++◌}
 use Prim.Native.Nat.{ℕ, zero, suc, ◌+◌, ◌*◌, ◌<◌}
+use native.Mathlib.Nat.{not-suc-le-zero}
 use native.Mathlib.Numerals.{add-one}
 use native.Mathlib.Omega.{arith}
 use lib.ListN.{length, get_or, take, set}
 use Rattle.std.proofs.lemmas.List.{take_more_set}
 use Rattle.rules.specs.Lists.{number, numbers}
 use Rattle.plate.proofs.Laws.{number_two}
+
+pub get_or_numbers : (w n i : ℕ) (b : List ℕ) (k : ℕ) → k < n → get_or (numbers w n i b) k 0 ≡ number w (i + w * k) b
+unfolding numbers
+get_or_numbers w zero i b k h = absurd (not-suc-le-zero h)
+get_or_numbers w (suc n) i b zero h = let e : i ≡ i + w * 0 = omega arith in ap (λ (j : ℕ). number w j b) e
+get_or_numbers w (suc n) i b (suc k) h = get_or_numbers w n (i + w) b k (omega arith) ∙ ap (λ (j : ℕ). number w j b) shift
+  where
+    shift : i + w + w * k ≡ i + w * suc k
+    shift = grind arith
 
 numbers_more : (w n i : ℕ) (b : List ℕ) → numbers w (suc n) i b ≡ numbers w n i b ++ number w (i + w * n) b ∷ []
 unfolding numbers

@@ -44,7 +44,7 @@ fn turns_in(file: &[u8]) -> [u16; Plate::MOST_DARTS]
     let head = plate::counts(file);
     let darts = 2 * head.channels;
     let start = Plate::PAIRS_AT + darts;
-    let mut turns = [Plate::MISSING; Plate::MOST_DARTS];
+    let mut turns = Plate::no_turns();
     copy_turns(file, start, &mut turns[..darts]);
     turns
 }
@@ -119,7 +119,7 @@ pub fn read_sheet(file: &[u8], darts: &mut [u16], lengths: &mut [u16]) -> Result
 pub fn judge(file: &[u8]) -> Result<Count, Refusal>
     ensures { answer_of result ≡ counted (judge_sheet file.now) }
 {
-    let mut darts = [Plate::MISSING; Plate::MOST_DARTS];
+    let mut darts = Plate::no_turns();
     let mut lengths = [0u16; Plate::MOST_CHANNELS];
     read_sheet(file, &mut darts, &mut lengths)
 }

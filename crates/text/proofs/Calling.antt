@@ -1,6 +1,6 @@
 -- The listing call (specs, "Calls"): what its functions ask of each other, and its three cases.
 -- filed_ports, filed_channels, filed_darts: a plate that was read is within the limits. filed_plan: it can be laid. ask_lines: a buffer with place for any listing has room for its lines. ask_net, ask_walkable, ask_held, ask_room: it can be listed when it is laid. listed_of: that is its listing. filed_as, same_lines: the same of the parts of arrays that are lent. filed_of: the plate of a file that was read.
--- read_lines, refused_lines: what is written for a plate, and for a refusal, is the file's listing. ask_refused: there is room for the latter. written: the listing stands in the buffer then. call_short: what the call gives (`Answers`) where too few bytes are lent. call_told, call_left: what it gives where the listing is written. count_within: the bytes written are among those lent.
+-- refusal_told: the refusal of the reading is that of the file, with its number and place. read_lines, refused_lines: what is written for a plate, and for a refusal, is the file's listing. ask_refused: there is room for the latter. written: the listing stands in the buffer then. call_short: what the call gives (`Answers`) where too few bytes are lent. call_told, call_left: what it gives where the listing is written. count_within: the bytes written are among those lent.
 -- Assumes nothing.
 use mathlib.Core.Path.{◌≡◌, sym, ap, ◌∙◌, subst}
 use mathlib.Core.Bool.{Bool, true}
@@ -10,7 +10,8 @@ use native.Mathlib.Decide.{dec_lt}
 use native.Mathlib.Omega.{arith}
 use borrow.Author.Tests.{lt-ltb, le-ltb}
 use lib.ListN.{length, take, drop, replicate, length-replicate}
-use Rattle.std.specs.Prelude.{Result, Ok, Err}
+use Rattle.std.specs.Prelude.{Some, Result, Ok, Err}
+use Rattle.std.proofs.lemmas.Option.{same_Some}
 use Rattle.rules.specs.Lists.{any}
 use Rattle.rules.specs.Files.{limits1}
 use Rattle.rules.specs.Refusals.{Answer, given, refused, refuse, lent_test, Plate as RulePlate, read_plate, pairs_of}
@@ -22,7 +23,8 @@ use Rattle.plate.specs.declared.Plate.{Plate}
 use Rattle.plate.specs.declared.Refusal.{Refusal}
 use Rattle.plate.specs.declared.Fault.TheVariants.{Lent}
 use Rattle.plate.specs.State.{most_darts}
-use Rattle.plate.proofs.Laws.{plate_in, Known}
+use Rattle.plate.specs.Answers.{number_of, reading_of, refusal_in}
+use Rattle.plate.proofs.Laws.{plate_in, Known, unread}
 use Rattle.print.specs.declared.Out.{Out}
 use Rattle.print.specs.Puts.{Put, Room, Wrote}
 use Rattle.print.proofs.Putting.{put_as, wrote_as}
@@ -175,6 +177,11 @@ unfolding filed_of
 read_lines b p k pairs e = lines_are p.ports pairs (replicate (length pairs / 2) true) (filed_of b p k pairs e)
 
 -- a file that was refused
+pub refusal_told : (b : List ℕ) (r : Result Plate Refusal) → reading_of r b ≡ read_plate b → (y : Refusal) → r ≡ Err y → (x : Refusal) → Some x ≡ refusal_in r → (n : ℕ) → n ≡ number_of x.fault → read_plate b ≡ refused n x.place
+refusal_told b r e y d x h n m =
+    let s : x ≡ y = same_Some x y (h ∙ ap refusal_in d) in
+    unread b r e y d ∙ ap (λ (w : Refusal). refused (number_of w.fault) w.place) (sym s) ∙ ap (λ (k : ℕ). refused k x.place) (sym m)
+
 module _ (b : List ℕ) (n q : ℕ) (h : read_plate b ≡ refused n q) where
   pub refused_lines : line "REFUSED" (n ∷ q ∷ []) ≡ listing b
   unfolding listing listing_of

@@ -23,15 +23,15 @@ fn list_pairs(pairs: &[u8], v: usize, out: &mut Out<'_>)
     ensures { Wrote (lines_of v pairs.now (replicate (length pairs.now / 2) true)) out.old out.new }
 {
     let darts = pairs.len();
-    let mut ends = [0u16; Plate::MOST_DARTS];
+    let mut ends = Plate::no_ends();
     plate::copy_ends(pairs, &mut ends);
     let ends = &ends[..darts];
-    let play = &[true; Plate::MOST_CHANNELS][..darts / 2];
-    let first = &mut [0u16; Plate::MOST_PORTS][..v];
-    let more = &mut [0u16; Plate::MOST_DARTS][..darts];
-    let turns = &mut [Plate::MISSING; Plate::MOST_DARTS][..darts];
-    let firsts = &mut [0u16; Plate::MOST_DARTS];
-    let lens = &mut [0u16; Plate::MOST_DARTS];
+    let play = &Plate::all_channels()[..darts / 2];
+    let first = &mut Plate::no_ports()[..v];
+    let more = &mut Plate::no_ends()[..darts];
+    let turns = &mut Plate::no_turns()[..darts];
+    let firsts = &mut Plate::no_ends();
+    let lens = &mut Plate::no_ends();
     let story = &mut [0u16; desk::STORY];
     let mut laying = Laying {
         turns,
@@ -71,7 +71,10 @@ pub fn listing(file: &[u8], out: &mut [u8]) -> Result<usize, Refusal>
     let got = plate::read(file);
     match got {
         Ok(p) => list_pairs(plate::pairs(file, got), p.ports, &mut out),
-        Err(x) => lines::refused_line(&mut out, x.number() as usize, x.place as usize),
+        Err(_) => {
+            let x = plate::refusal_in(got).unwrap();
+            lines::refused_line(&mut out, x.number() as usize, x.place as usize);
+        }
     }
     Ok(out.at)
 }

@@ -61,8 +61,8 @@ put_head v e o x y z h l p q r =
 pub part_size : (xs : List ℕ) (a : ℕ) → a ≤ length xs → length (take (length xs - a) (drop a xs)) ≡ length xs - a
 part_size xs a h = simp (length-take, length-drop) (omega arith)
 
-pub middle_size : (o : List ℕ) (n : ℕ) → 8 + 3 * n ≤ length o → length (take (8 + n - 8) (drop 8 o)) ≡ n
-middle_size o n h = simp (length-take, length-drop) (omega arith)
+pub middle_size : (o : List ℕ) (at n : ℕ) → at + n ≤ length o → length (take (at + n - at) (drop at o)) ≡ n
+middle_size o at n h = simp (length-take, length-drop) (omega arith)
 
 -- a part that is written whole
 pub whole : (vs part : List ℕ) → length part ≡ length vs → vs ++ drop (length vs) part ≡ vs

@@ -2,7 +2,7 @@
 --   Known b p                   the code's plate p was read from the file b: its counts, its length, and every test passed
 -- number_.., bytes_numbers_lem: one-byte numbers are a part of the file. length_plate, length_sheet: the lengths 8 + 2E and 8 + 6E. sheet_..: a sheet's V, E and ports stand where a plate file's do.
 -- ends_part: the ports of the pairs are a part of the file. plate_size, sheet_size: the length of a file that passed tests 1 to 9 (laws, `Tested`).
--- test_passed, test_refused: a test of the code that was passed or refused. known, read_is, unread: a reading that gave a plate or a refusal. part_none, part_rest, part_front: the part of a file that the reader hands back as its pairs. part_as, part_is, part_told, pairs_ends, pairs_length: of a file that was read they are the ports of the pairs.
+-- test_passed, test_refused: a test of the code that was passed or refused. known, read_is, unread: a reading that gave a plate or a refusal. part_none, part_rest, part_front: the part of a file that the reader hands back as its pairs. part_is, part_told, pairs_ends, pairs_length: of a file that was read they are the ports of the pairs.
 -- length_copied, copied_front: a copy is as long as what it was copied into, and begins with what was copied. refusal_unique, test_unique, reading_unique: what an answer stands for determines it.
 -- Assumes nothing.
 use mathlib.Core.Path.{◌≡◌, refl, sym, ap, ◌∙◌}
@@ -120,14 +120,14 @@ pub record Known (b : List ℕ) (p : Plate) : Type 0 where
 
 module _ (b : List ℕ) (r : Result Plate Refusal) (e : reading_of r b ≡ read_plate b) where
   pub unread : (x : Refusal) → r ≡ Err x → read_plate b ≡ refused (number_of x.fault) x.place
-  unfolding reading_of
+  unfolding reading_by
   unread x d = sym e ∙ rw d
 
   pub read_is : (p : Plate) → r ≡ Ok p → reading_of (Ok p) b ≡ read_plate b
   read_is p d = ap (λ (q : Result Plate Refusal). reading_of q b) (sym d) ∙ e
 
   read_given : (p : Plate) → r ≡ Ok p → read_plate b ≡ given (record { ports = p.ports; channels = p.channels; ends = ends_in plate_file b })
-  unfolding reading_of
+  unfolding reading_by
   read_given p d = sym e ∙ rw d
 
   pub known : (p : Plate) → r ≡ Ok p → Known b p
@@ -196,19 +196,13 @@ module _ {E : Type 0} (told : E → ℕ × ℕ) (b : List ℕ) (r : Result Plate
           let n : start + 2 * p.channels - start ≡ 2 * p.channels = omega arith in
           ap (λ (m : ℕ). take m (drop start b)) n ∙ ap (take (2 * p.channels)) behind_start ∙ sym part_given
 
--- the numbers that a refusal has are told of it, too
-pub part_as : (b : List ℕ) (r : Result Plate Refusal) (l : List ℕ) → ((told : Refusal → ℕ × ℕ) → l ≡ pairs_part (reading_by told r b) b) → l ≡ pairs_part (reading_of r b) b
-unfolding reading_by reading_of
-part_as b (Ok p) l h = h (λ x. (0, 0))
-part_as b (Err x) l h = h (λ y. (number_of y.fault, y.place))
-
 -- of the file's own reading
 pub part_is : (b : List ℕ) (r : Result Plate Refusal) → reading_of r b ≡ read_plate b → pairs_part (reading_of r b) b ≡ pairs_of b
 unfolding pairs_of
 part_is b r e = ap (λ (a : Answer RulePlate). pairs_part a b) e
 
 pub part_told : (b : List ℕ) (r : Result Plate Refusal) → reading_of r b ≡ read_plate b → (l : List ℕ) → ((told : Refusal → ℕ × ℕ) → l ≡ pairs_part (reading_by told r b) b) → l ≡ pairs_of b
-part_told b r e l h = part_as b r l h ∙ part_is b r e
+part_told b r e l h = h (λ x. (number_of x.fault, x.place)) ∙ part_is b r e
 
 module _ (b : List ℕ) (p : Plate) (k : Known b p) where
   pairs_part_lem : pairs_of b ≡ take (2 * p.channels) (drop 8 b)
@@ -284,7 +278,7 @@ test_unique (Err x) (Ok b) e = absurd (refused_not (number_of x.fault) x.place t
 test_unique (Err x) (Err y) e = ap Err (refusal_unique x y e)
 
 pub reading_unique : (b : List ℕ) (r s : Result Plate Refusal) → reading_of r b ≡ reading_of s b → r ≡ s
-unfolding reading_of
+unfolding reading_by
 reading_unique b (Ok p) (Ok q) e =
     let d = given_inj _ _ e in
     ap Ok (plate_same p q (ap (λ (w : RulePlate). w.ports) d) (ap (λ (w : RulePlate). w.channels) d))

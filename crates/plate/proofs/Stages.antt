@@ -22,7 +22,7 @@ use Rattle.plate.specs.declared.Refusal.{Refusal}
 use Rattle.plate.specs.declared.Kind.{Kind}
 use Rattle.plate.specs.declared.Kind.TheVariants.{Plate as PlateKind, Sheet as SheetKind}
 use Rattle.plate.specs.declared.Plate.{Plate}
-use Rattle.plate.specs.Answers.{format_of, number_of, test_of, reading_of}
+use Rattle.plate.specs.Answers.{format_of, number_of, test_of, reading_of, reading_by}
 use Rattle.plate.specs.State.{most_darts}
 use Rattle.laws.proofs.Refusals.{count_tests_passed}
 use Rattle.laws.proofs.Tests.{or_neither}
@@ -265,7 +265,7 @@ module _ (b : List ℕ) (t : Result (Unit {0}) Refusal) (p : test_of t ≡ file_
   first_is = p
 
   pub read_stop_1 : (x : Refusal) → t ≡ Err x → reading_of (Err x) b ≡ read_plate b
-  unfolding reading_of
+  unfolding reading_by
   read_stop_1 x e = sym (reading_is b ∙ stops t x (file_tests plate_file b) (pieces_in b >> given (plate_in b)) first_is e)
 
   pub read_tested : t ≡ Ok tt → file_tests plate_file b ≡ passed
@@ -273,11 +273,11 @@ module _ (b : List ℕ) (t : Result (Unit {0}) Refusal) (p : test_of t ≡ file_
 
   module _ (e : t ≡ Ok tt) (u : Result (Unit {0}) Refusal) (q : test_of u ≡ pieces_in b) where
     pub read_stop_2 : (x : Refusal) → u ≡ Err x → reading_of (Err x) b ≡ read_plate b
-    unfolding reading_of
+    unfolding reading_by
     read_stop_2 x d =
         sym (reading_is b ∙ goes t (file_tests plate_file b) (pieces_in b >> given (plate_in b)) first_is e ∙ stops u x (pieces_in b) (given (plate_in b)) q d)
 
     pub read_go : u ≡ Ok tt → (c : Plate) → c.ports ≡ ports_in plate_file b → c.channels ≡ channels_in plate_file b → reading_of (Ok c) b ≡ read_plate b
-    unfolding reading_of
+    unfolding reading_by
     read_go d c v n =
         rw (v, n) (sym (reading_is b ∙ goes t (file_tests plate_file b) (pieces_in b >> given (plate_in b)) first_is e ∙ goes u (pieces_in b) (given (plate_in b)) q d))

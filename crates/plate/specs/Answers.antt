@@ -2,8 +2,8 @@
 --   format_of kind        the format that a kind of file has
 --   number_of f           document 01's number of the refusal for a fault
 --   test_of t             what a test gave: leave to go on, or a refusal with its number and place
---   reading_of r b        what reading the file b gave: the read plate, or a refusal with its number and place
---   reading_by told r b   the same of any kind of refusal, where `told` says which number and place it has
+--   reading_by told r b   what reading the file b gave: the read plate, or a refusal, of which `told` says which number and place it has
+--   reading_of r b        the same of the reader's own refusals
 --   refusal_in r          the refusal of a reading that has one
 -- Assumes nothing.
 use Rattle.std.specs.Prelude.{List, ℕ, Option, Some, None, Result, Ok, Err}
@@ -46,9 +46,8 @@ unfoldable pub reading_by : {E : Type 0} → (E → ℕ × ℕ) → Result Plate
 reading_by told (Ok p) b = given (record { ports = p.ports; channels = p.channels; ends = ends_in plate_file b })
 reading_by told (Err x) b = refused (told x).0 (told x).1
 
-unfoldable pub reading_of : Result Plate Refusal → List ℕ → Answer RulePlate
-reading_of (Ok p) b = given (record { ports = p.ports; channels = p.channels; ends = ends_in plate_file b })
-reading_of (Err x) b = refused (number_of x.fault) x.place
+abbrev pub reading_of : Result Plate Refusal → List ℕ → Answer RulePlate
+reading_of r b = reading_by (λ x. (number_of x.fault, x.place)) r b
 
 abbrev pub refusal_in : {E : Type 0} → Result Plate E → Option E
 refusal_in (Ok p) = None

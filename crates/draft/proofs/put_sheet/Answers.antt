@@ -14,10 +14,14 @@ use Rattle.draft.proofs.put_sheet.Goals.{Start, After-put_head, After-put_pairs}
 room : (c : Start) → 8 + 3 * length c.args.pairs.now ≤ length c.args.out.now
 room c = omega (arith, length_sheet c.args.p.channels, c.requires.room, c.requires.pairs)
 
+-- the part that is lent for the pairs is as long as they are
+lent : (c : After-put_head) → 8 + 3 * length c.args.pairs.now ≤ length c.put_head.new.out → length (take (8 + length c.args.pairs.now - 8) (drop 8 c.put_head.new.out)) ≡ length c.args.pairs.now
+lent c h = middle_size c.put_head.new.out 8 (length c.args.pairs.now) (omega arith)
+
 -- and so it is after the head was put, and after the pairs were
 paired : (c : After-put_pairs) → 8 + 3 * length c.args.pairs.now ≤ length c.put_head.new.out
     → length (take 8 c.put_head.new.out ++ (c.put_pairs.new.part ++ drop (8 + length c.args.pairs.now - 8) (drop 8 c.put_head.new.out))) ≡ length c.put_head.new.out
-paired c h = mid_size c.put_head.new.out c.put_pairs.new.part 8 (length c.args.pairs.now) (omega arith) (c.put_pairs.auto.part ∙ middle_size c.put_head.new.out (length c.args.pairs.now) h)
+paired c h = mid_size c.put_head.new.out c.put_pairs.new.part 8 (length c.args.pairs.now) (omega arith) (c.put_pairs.auto.part ∙ middle_size c.put_head.new.out 8 (length c.args.pairs.now) (omega arith))
 
 headed : (c : Start) (d : After-put_head) → length d.put_head.new.out ≡ length c.args.out.now → 8 + 3 * length c.args.pairs.now ≤ length d.put_head.new.out
 headed c d h = omega (arith, h, room c)
@@ -33,7 +37,7 @@ slice_bounds-put_pairs-end c =
 pub put_pairs-requires : goal.put_pairs-requires
 put_pairs-requires c =
     let was = goal.at.put_pairs-requires c in
-    omega (arith, middle_size c.put_head.new.out (length c.args.pairs.now) (headed was.Start was.After-put_head c.put_head.auto.out))
+    omega (arith, lent was.After-put_head (headed was.Start was.After-put_head c.put_head.auto.out))
 
 pub slice_bounds-put_turns-count : goal.slice_bounds-put_turns-count
 slice_bounds-put_turns-count c =
@@ -64,5 +68,5 @@ put_turns-requires c =
 pub returns : goal.returns
 returns c =
     let was = goal.at.returns c in
-    put_sheet _ _ c.args.out.now c.args.pairs.now c.args.turns.now _ _ _ _ c.requires.pairs c.requires.turns c.requires.room (λ i h. omega (arith, c.type_inv.pairs i)) c.put_head.ensures (c.put_pairs.ensures ∙ whole _ _ (middle_size c.put_head.new.out (length c.args.pairs.now) (headed was.Start was.After-put_head c.put_head.auto.out))) refl
+    put_sheet _ _ c.args.out.now c.args.pairs.now c.args.turns.now _ _ _ _ c.requires.pairs c.requires.turns c.requires.room (λ i h. omega (arith, c.type_inv.pairs i)) c.put_head.ensures (c.put_pairs.ensures ∙ whole _ _ (lent was.After-put_head (headed was.Start was.After-put_head c.put_head.auto.out))) refl
     c.put_turns.ensures
